@@ -21,7 +21,8 @@ use Rattle.rip_report.specs.CaptureLogs.BeginsWith.{none, some}
 use Rattle.rip_report.specs.CaptureLogs.FileFront.{text as whole_front, packets as some_packets}
 use Rattle.rip_report.specs.CaptureLogs.FileText.{whole, refused, unread, memory}
 use Rattle.rip_report.specs.CaptureLogs.IsRefusedAt.{fault, packet, comment}
-use Rattle.rip_report.specs.CapturePackets.{ClosesSo, EndsSo, EndsWith}
+use Rattle.rip_report.specs.CapturePackets.{ClosesFile, EndsSo, EndsWith}
+use Rattle.rip_report.specs.Outs.{Adds, Mark, Progress, mark_of}
 use Rattle.rip_report.specs.CaptureText.{Carrier, IsCarrier, comment_line, counted_status, line_count, packet_lines}
 use Rattle.rip_report.specs.Statuses.{fault_line_of}
 use Rattle.rip_report.specs.Written.{line}
@@ -30,7 +31,6 @@ use Rattle.rip_report.specs.declared.captures.ending.Ending.{Ending}
 use Rattle.rip_report.specs.declared.captures.ending.Ending.TheVariants.{Whole, Refused, Unread, Unwritten}
 use Rattle.rip_report.specs.declared.captures.ending.RefusalCode.TheVariants.{Capture, TooManyLines}
 use Rattle.rip_report.specs.declared.captures.log.CaptureLog.{CaptureLog}
-use Rattle.rip_report.specs.declared.listing.Listing.{Listing}
 use Rattle.rip_report.specs.declared.status.RunError.{RunError}
 use Rattle.rip_report.specs.declared.status.RunError.TheVariants.{Memory, Read, Write}
 use Rattle.rip_report.specs.declared.status.Status.{Status}
@@ -99,23 +99,23 @@ module _ {R : Type 0} (given : R → List ℕ) (at_end : R → Bool) (before byt
     by_code NoRead found ended = later NoRead (λ e. cc e) found
 
   -- a file that is refused since the log has no room
-  many-by : (how : Authentication) (lines : ℕ) (cs : List Carrier) (at : ℕ) (listing : Listing) → AllByRecursion IsCarrier cs →
-      EndsSo given at_end how before lines cs reader listing (Refused TooManyLines at)
+  many-by : (how : Authentication) (lines : ℕ) (cs : List Carrier) (at : ℕ) (out : Progress) → AllByRecursion IsCarrier cs →
+      EndsSo given at_end how before lines cs reader out (Refused TooManyLines at)
       → IsRefusedAt lines bytes cs TooManyLines at
-  many-by how lines cs at listing carry (count, inl (next, is, takes, has)) =
+  many-by how lines cs at out carry (count, inl (next, is, takes, has)) =
       packet takes.front takes.bytes (held_by reader ++ text.left) next (record { capture = takes.right; carry = carry })
       (record { capture = subst (λ (fs : List Frame). IsCapture (takes.front ++ takes.bytes) fs) (sym (frames-snoc cs next)) takes.longer; carry = all-snoc IsCarrier cs next carry is })
       takes.next
       (split-at (takes.front ++ takes.bytes) (map (λ c. c.frame) cs ++ next.frame ∷ []) takes.stands ∙ append_assoc (takes.front ++ takes.bytes) (held_by reader) text.left)
       has count takes.place_is refl
-  many-by how lines cs at listing carry (count, inr (here, place)) =
+  many-by how lines cs at out carry (count, inr (here, place)) =
       let is = whole-is (map (λ c. c.frame) cs) here in
       comment (record { capture = subst (λ l. IsCapture l (map (λ c. c.frame) cs)) (sym is) here.right; carry = carry })
       count (place ∙ here.stands.position ∙ ap length (sym is)) refl
 
 -- a run that wrote the text of a file, and then ends, has added it
 module _ {K : Type 0} (taken : K → Taken) (broken : K → Bool) (old new : K) (before after : CaptureLog) (link bytes : List ℕ) where
-  pub adds-text : (text : List ℕ) (lines : ℕ) (answer result : Result Status RunError) → EndsWith taken broken old new text answer result
+  pub adds-text : (text : List ℕ) (lines : ℕ) (answer result : Result Status RunError) → EndsWith (mark_of taken broken old) (mark_of taken broken new) text answer result
       → FileText before.authentication (before.files + 1) before.lines link bytes text lines answer → Follows before after lines result → AddsFile taken broken old new before after link bytes result
   adds-text text lines answer result ends is follows = record {
     kept = λ e is_error. subst (Follows before after lines) is_error follows;
@@ -124,7 +124,7 @@ module _ {K : Type 0} (taken : K → Taken) (broken : K → Bool) (old new : K) 
     sink = ends.sink;
   }
 
-  pub not-followed : (text : List ℕ) (lines : ℕ) (answer result : Result Status RunError) → (answer ≡ Ok RefusedFile) ⊎ (is_err answer ≡ true) → EndsWith taken broken old new text answer result →
+  pub not-followed : (text : List ℕ) (lines : ℕ) (answer result : Result Status RunError) → (answer ≡ Ok RefusedFile) ⊎ (is_err answer ≡ true) → EndsWith (mark_of taken broken old) (mark_of taken broken new) text answer result →
       after ≡ before → Follows before after lines result
   not-followed text lines answer (Err e) h ends same = same
   not-followed text lines answer (Ok s) (inl e) ends same =
@@ -134,10 +134,10 @@ module _ {K : Type 0} (taken : K → Taken) (broken : K → Bool) (old new : K) 
 
 module _ {R K : Type 0} (given : R → List ℕ) (at_end : R → Bool) (start bytes : List ℕ) (reader : CaptureReader R)
     (text : Begins (start ++ bytes) (given (source_of reader)) (at_end (source_of reader)))
-    (taken : K → Taken) (broken : K → Bool) (old new : K) (before after : CaptureLog) (link : List ℕ) (listing : Listing) (early : Early) (captures : ReadCaptures)
+    (taken : K → Taken) (broken : K → Bool) (old new : K) (before after : CaptureLog) (link : List ℕ) (out : Progress) (early : Early) (captures : ReadCaptures)
     (cs : List Carrier) (carry : AllByRecursion IsCarrier cs) (few : before.lines + line_count cs ≤ 1000000) where
-  pub adds-file : (ending : Ending) (result : Result Status RunError) → EndsSo given at_end before.authentication start before.lines cs reader listing ending
-      → ClosesSo taken broken old new before after link (packet_lines before.authentication link cs) ending result → AddsFile taken broken old new before after link bytes result
+  pub adds-file : (ending : Ending) (result : Result Status RunError) → EndsSo given at_end before.authentication start before.lines cs reader out ending
+      → ClosesFile (mark_of taken broken old) (mark_of taken broken new) before after link (packet_lines before.authentication link cs) ending result → AddsFile taken broken old new before after link bytes result
   adds-file (Whole tally) result (here, counts, count, room) (ends, follows) =
       let is = whole-is given at_end start bytes reader text (map (λ c. c.frame) cs) here in
       adds-text taken broken old new before after link bytes _ (tally.lines + 1) _ result ends
@@ -149,7 +149,7 @@ module _ {R K : Type 0} (given : R → List ℕ) (at_end : R → Bool) (start by
       (refused cs (Capture code) at (fault code found carry few refl) refl refl) (not-followed taken broken old new before after link bytes _ 0 _ result (inl refl) ends same)
   adds-file (Refused TooManyLines at) result ends_so (ends, same) =
       adds-text taken broken old new before after link bytes _ 0 _ result ends
-      (refused cs TooManyLines at (many-by given at_end start bytes reader text before.authentication before.lines cs at listing carry ends_so) refl refl)
+      (refused cs TooManyLines at (many-by given at_end start bytes reader text before.authentication before.lines cs at out carry ends_so) refl refl)
       (not-followed taken broken old new before after link bytes _ 0 _ result (inl refl) ends same)
   adds-file Unread result (error, stops, failed) (ends, same) =
       adds-text taken broken old new before after link bytes _ 0 _ result ends
@@ -173,7 +173,7 @@ module _ {R K : Type 0} (given : R → List ℕ) (at_end : R → Bool) (start by
 
 -- a run that ends with Read had a source that failed
 pub unread-only : {K : Type 0} (taken : K → Taken) (broken : K → Bool) (old new : K) (before after : CaptureLog) (link text : List ℕ) (ending : Ending) (result : Result Status RunError)
-    → ClosesSo taken broken old new before after link text ending result → result ≡ Err Read → ending ≡ Unread
+    → ClosesFile (mark_of taken broken old) (mark_of taken broken new) before after link text ending result → result ≡ Err Read → ending ≡ Unread
 unread-only taken broken old new before after link text (Whole tally) result (ends, follows) e = absurd (cc ((ends.out (λ f. cc (e, f))).0, e))
 unread-only taken broken old new before after link text (Refused (Capture code) at) result (ends, same) e = absurd (cc ((ends.out (λ f. cc (e, f))).0, e))
 unread-only taken broken old new before after link text (Refused TooManyLines at) result (ends, same) e = absurd (cc ((ends.out (λ f. cc (e, f))).0, e))
@@ -182,7 +182,7 @@ unread-only taken broken old new before after link text Unwritten result (is, si
 
 -- no run that began a file ends with Memory
 pub never-memory : {K : Type 0} (taken : K → Taken) (broken : K → Bool) (old new : K) (before after : CaptureLog) (link text : List ℕ) (ending : Ending) (result : Result Status RunError)
-    → ClosesSo taken broken old new before after link text ending result → result ≡ Err Memory → ⊥
+    → ClosesFile (mark_of taken broken old) (mark_of taken broken new) before after link text ending result → result ≡ Err Memory → ⊥
 never-memory taken broken old new before after link text (Whole tally) result (ends, follows) e = cc ((ends.out (λ f. cc (e, f))).0, e)
 never-memory taken broken old new before after link text (Refused (Capture code) at) result (ends, same) e = cc ((ends.out (λ f. cc (e, f))).0, e)
 never-memory taken broken old new before after link text (Refused TooManyLines at) result (ends, same) e = cc ((ends.out (λ f. cc (e, f))).0, e)
@@ -190,9 +190,9 @@ never-memory taken broken old new before after link text Unread result (ends, sa
 never-memory taken broken old new before after link text Unwritten result (is, sink, began, same) e = cc (is, e)
 
 module _ {R : Type 0} (given : R → List ℕ) (at_end : R → Bool) (start bytes : List ℕ) (reader : CaptureReader R)
-    (text : Begins (start ++ bytes) (given (source_of reader)) (at_end (source_of reader))) (how : Authentication) (lines : ℕ) (listing : Listing) (cs : List Carrier) where
+    (text : Begins (start ++ bytes) (given (source_of reader)) (at_end (source_of reader))) (how : Authentication) (lines : ℕ) (out : Progress) (cs : List Carrier) where
   -- or the file is longer than offsets go
-  pub far-bytes : EndsSo given at_end how start lines cs reader listing Unread → IsFar reader → 2 ^ 64 ≤ length bytes + 2 ^ 32
+  pub far-bytes : EndsSo given at_end how start lines cs reader out Unread → IsFar reader → 2 ^ 64 ≤ length bytes + 2 ^ 32
   far-bytes (error, stops, failed) far =
       let is = split-by given at_end start bytes reader text stops.front stops.rest stops.gave in
       let size : length bytes ≡ length stops.front + length (stops.rest ++ text.left) =
@@ -201,11 +201,11 @@ module _ {R : Type 0} (given : R → List ℕ) (at_end : R → Bool) (start byte
 
 -- what went out where the source failed has each packet that it gave whole
 pub adds-unread : {R K : Type 0} (given : R → List ℕ) (at_end : R → Bool) (start bytes : List ℕ) (reader : CaptureReader R) (taken : K → Taken) (broken : K → Bool) (old new : K)
-    (before after : CaptureLog) (link : List ℕ) (lines : ℕ) (listing : Listing) (cs : List Carrier)
-    → AllByRecursion IsCarrier cs → given (source_of reader) ≡ start ++ bytes → EndsSo given at_end before.authentication start lines cs reader listing Unread → (result : Result Status RunError)
-    → ClosesSo taken broken old new before after link (packet_lines before.authentication link cs) Unread result
+    (before after : CaptureLog) (link : List ℕ) (lines : ℕ) (out : Progress) (cs : List Carrier)
+    → AllByRecursion IsCarrier cs → given (source_of reader) ≡ start ++ bytes → EndsSo given at_end before.authentication start lines cs reader out Unread → (result : Result Status RunError)
+    → ClosesFile (mark_of taken broken old) (mark_of taken broken new) before after link (packet_lines before.authentication link cs) Unread result
     → result ≡ Err Read → AddsUnread taken old new before.authentication link bytes
-adds-unread given at_end start bytes reader taken broken old new before after link lines listing cs carry gave (error, stops, failed) result (ends, same) e =
+adds-unread given at_end start bytes reader taken broken old new before after link lines out cs carry gave (error, stops, failed) result (ends, same) e =
     let is : bytes ≡ stops.front ++ stops.rest = append_cancel_left start bytes (stops.front ++ stops.rest) (sym gave ∙ stops.gave ∙ append_assoc start stops.front stops.rest) in
     record {
       carriers = cs;
@@ -216,6 +216,20 @@ adds-unread given at_end start bytes reader taken broken old new before after li
       ];
       text = (ends.out (λ f. cc (e, f))).1;
     }
+
+-- the end of a run that added a text to nothing
+pub ends-behind : (a new : Mark) (begun out : Progress) (text : List ℕ) (answer result : Result Status RunError) → begun.start ≡ a → begun.text ≡ [] → Adds begun out text
+    → EndsWith out.start new out.text answer result → EndsWith a new text answer result
+ends-behind a new begun out text answer result start empty adds ends =
+    subst (λ (t : List ℕ). EndsWith a new t answer result) (adds.text ∙ ap (λ (l : List ℕ). l ++ text) empty)
+    (subst (λ (m : Mark). EndsWith m new out.text answer result) (adds.start ∙ start) ends)
+
+-- what the last line of a file leaves, behind the lines that were added to nothing
+pub closes-behind : (a new : Mark) (begun out : Progress) (before after : CaptureLog) (link lines : List ℕ) (ending : Ending) (result : Result Status RunError) → begun.start ≡ a → begun.text ≡ []
+    → Adds begun out lines → ClosesFile out.start new before after link out.text ending result → ClosesFile a new before after link lines ending result
+closes-behind a new begun out before after link lines ending result start empty adds closes =
+    subst (λ (t : List ℕ). ClosesFile a new before after link t ending result) (adds.text ∙ ap (λ (l : List ℕ). l ++ lines) empty)
+    (subst (λ (m : Mark). ClosesFile m new before after link out.text ending result) (adds.start ∙ start) closes)
 
 -- ---- a log that goes on
 
@@ -266,7 +280,7 @@ failed-text Write h how n lines link bytes few = absurd (h refl)
 failed-text Memory h how n lines link bytes few = memory refl refl
 
 pub failure-goes-on : {K : Type 0} (taken : K → Taken) (broken : K → Bool) (old new : K) (error : RunError) (result : Result Status RunError) → error ≢ Write
-    → EndsWith taken broken old new (line (fault_line_of error)) (Err error) result → (log : CaptureLog) (files : List File) (text : List ℕ) (file : File) → IsLogOf log files text → result ≢ Err Write
+    → EndsWith (mark_of taken broken old) (mark_of taken broken new) (line (fault_line_of error)) (Err error) result → (log : CaptureLog) (files : List File) (text : List ℕ) (file : File) → IsLogOf log files text → result ≢ Err Write
     → (part : List ℕ) × Took (taken old) (taken new) part × LogOf log.authentication (files ++ file ∷ []) (text ++ part) result
 failure-goes-on taken broken old new error result good ends log files text file is wrote =
     let out = ends.out wrote in

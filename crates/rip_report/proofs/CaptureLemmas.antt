@@ -24,10 +24,8 @@ use Rattle.rip_report.specs.declared.captures.ending.Ending.TheVariants.{Refused
 use Rattle.rip_report.specs.declared.captures.ending.RefusalCode.TheVariants.{TooManyLines}
 use Rattle.rip_report.specs.declared.captures.tally.Tally.{Tally}
 use Rattle.rip_report.specs.CaptureText.{Carrier, HasRoom, carried_line, count_of, counted, counts_of, has_line, is_cut, is_datagram, is_elsewhere, is_fragment, is_long, is_malformed, is_other, line_count, omitted_of, one, packet_lines}
-use Rattle.rip_log.specs.Taken.{Taken}
-use Rattle.rip_report.proofs.ListingLemmas.{adds_same, adds_then}
-use Rattle.rip_report.specs.Listings.{Adds}
-use Rattle.rip_report.specs.declared.listing.Listing.{Listing}
+use Rattle.rip_report.proofs.OutLemmas.{adds_same, adds_then}
+use Rattle.rip_report.specs.Outs.{Adds, Progress}
 use Rattle.rip_report.specs.declared.captures.counts.PacketCounts.{PacketCounts}
 
 encode-append : (t xs ys : List ℕ) → encode_with t (xs ++ ys) ≡ encode_with t xs ++ encode_with t ys
@@ -98,18 +96,16 @@ has-room how n cs is few =
     })
 
 -- what a packet more does to all that was logged before
-module _ {K : Type 0} (taken : K → Taken) (failed : K → Bool) where
-  pub adds-packet : (a b c : K) (old mid new : Listing) (how : Authentication) (link : List ℕ) (cs : List Carrier) (p : Carrier) → Adds taken failed a b old mid (packet_lines how link cs)
-      → Adds taken failed b c mid new (carried_line how link p.frame.bytes p.carried) → Adds taken failed a c old new (packet_lines how link (cs ++ p ∷ []))
-  adds-packet a b c old mid new how link cs p f g = adds_same taken failed a c old new _ (packet_lines how link (cs ++ p ∷ [])) (sym (lines-snoc how link cs p))
-      (adds_then taken failed a b c old mid new (packet_lines how link cs) (carried_line how link p.frame.bytes p.carried) f g)
+pub adds-packet : {old mid new : Progress} (how : Authentication) (link : List ℕ) (cs : List Carrier) (p : Carrier) → Adds old mid (packet_lines how link cs)
+    → Adds mid new (carried_line how link p.frame.bytes p.carried) → Adds old new (packet_lines how link (cs ++ p ∷ []))
+adds-packet how link cs p f g = adds_same (sym (lines-snoc how link cs p)) (adds_then f g)
 
 -- ---- how a file ends
 
-module _ {R : Type 0} (given : R → List ℕ) (at_end : R → Bool) (how : Authentication) (before : List ℕ) (lines : ℕ) (cs : List Carrier) (new : CaptureReader R) (listing : Listing) where
+module _ {R : Type 0} (given : R → List ℕ) (at_end : R → Bool) (how : Authentication) (before : List ℕ) (lines : ℕ) (cs : List Carrier) (new : CaptureReader R) (out : Progress) where
   -- at an error
   pub ends-by : (code : CaptureCode) (at : ℕ) → StopsAt given at_end before (map (λ c. c.frame) cs) (record { code = code; at = at }) new →
-      EndsSo given at_end how before lines cs new listing (ended_by (record { code = code; at = at }))
+      EndsSo given at_end how before lines cs new out (ended_by (record { code = code; at = at }))
   ends-by Magic at h = (h, refl)
   ends-by Cut at h = (h, refl)
   ends-by Version at h = (h, refl)
@@ -121,9 +117,9 @@ module _ {R : Type 0} (given : R → List ℕ) (at_end : R → Bool) (how : Auth
 
   -- at its end
   pub ends-at : (tally : Tally) → EndsHere given at_end before (map (λ c. c.frame) cs) new → tally.counts ≡ counts_of how cs → tally.lines ≡ lines + line_count cs → tally.lines ≤ 1000000
-      → EndsSo given at_end how before lines cs new listing (ended_at tally (position_of new))
+      → EndsSo given at_end how before lines cs new out (ended_at tally (position_of new))
   ends-at tally here counts count few =
-      elim (tally.lines == 1000000) as (λ b. (tally.lines == 1000000) ≡ b → EndsSo given at_end how before lines cs new listing
+      elim (tally.lines == 1000000) as (λ b. (tally.lines == 1000000) ≡ b → EndsSo given at_end how before lines cs new out
       (if b then RefusedFile TooManyLines (position_of new) else Whole tally)) [
         | true ↦ λ e. (sym count ∙ eqb-true tally.lines 1000000 e, inr (here, refl))
         | false ↦ λ e. (here, counts, count, omega (arith, few, eqb-false tally.lines 1000000 e))

@@ -40,6 +40,10 @@ told_fault word front b code at h is fault longer = by_length (split (length fro
         let all : front ++ drop 505 b ≡ b = ap (λ (l : List ℕ). l ++ drop 505 b) is ∙ take-append-drop 505 b in
         no_datagram b code at h (subst (λ (l : List ℕ). WireFault l code at) all (longer long (drop 505 b)))
 
-pub shown_done : (b : List ℕ) (m : Message) → (shown b m).status ≡ Done
+shown_done : (b : List ℕ) (m : Message) → (shown b m).status ≡ Done
 shown_done b request = refl
 shown_done b (response es) = refl
+
+-- which is Done
+pub told_done : (word d : List ℕ) (m : Message) → DecodeText word (shown d m) → DecodeText word (record { text = (shown d m).text; status = Done })
+told_done word d m told = subst (λ status. DecodeText word (record { text = (shown d m).text; status = status })) (shown_done d m) told

@@ -1,5 +1,5 @@
 -- Who has an address, what is told of strangers, and parts of texts.
-use Rattle.std.proofs.Common.{◌≡◌, ◌∙◌, ℕ, ◌+◌, ◌<◌, List, [], ◌++◌, length, get_or, Some, Bool, false, inl, inr, ap, append_assoc, subst, arith, refl}
+use Rattle.std.proofs.Common.{◌≡◌, ℕ, ◌+◌, ◌<◌, List, [], length, get_or, Some, Bool, false, inl, inr, subst, arith, refl}
 use Rattle.std.specs.Prelude.{Decides, slice_get}
 use Rattle.std.proofs.lemmas.Bool.{cases_lt}
 use Rattle.std.proofs.lemmas.Bool.Decides.{not_from_Decides}
@@ -50,20 +50,3 @@ its_lines n events k within link address t text linked sent tallied lines =
     let on = subst (λ l. StrangerLines n (origin_of l address) t text) (linked o is) lines in
     let by = subst (λ a. StrangerLines n (origin_of o.link a) t text) (sent o is) on in
     record { origin = o; told = is; lines = subst (λ t. StrangerLines n o t text) (tallied o is) by }
-
--- one part after another
-pub two_on : (text a b x y : List ℕ) → x ≡ text ++ a → y ≡ x ++ b → y ≡ text ++ (a ++ b)
-two_on text a b x y first second = second ∙ ap (λ (l : List ℕ). l ++ b) first ∙ append_assoc text a b
-
-pub three_on : (text a b c x y z : List ℕ) → x ≡ text ++ a → y ≡ x ++ b → z ≡ y ++ c → z ≡ text ++ ((a ++ b) ++ c)
-three_on text a b c x y z first second third = two_on text (a ++ b) c y z (two_on text a b x y first second) third
-
--- parts that are added one after another
-pub regroup_four : (text a b c d : List ℕ) → (((text ++ a) ++ b) ++ c) ++ d ≡ text ++ (((a ++ b) ++ c) ++ d)
-regroup_four text a b c d = simp append_assoc
-
-pub regroup_five : (text a b c d e : List ℕ) → ((((text ++ a) ++ b) ++ c) ++ d) ++ e ≡ text ++ ((((a ++ b) ++ c) ++ d) ++ e)
-regroup_five text a b c d e = simp append_assoc
-
-pub regroup_six : (text a b c d e f : List ℕ) → (((((text ++ a) ++ b) ++ c) ++ d) ++ e) ++ f ≡ text ++ (((((a ++ b) ++ c) ++ d) ++ e) ++ f)
-regroup_six text a b c d e f = simp append_assoc

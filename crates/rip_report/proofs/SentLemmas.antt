@@ -1,5 +1,5 @@
 -- Texts that go out in parts.
-use Rattle.std.proofs.Common.{◌≡◌, ℕ, List, [], ◌++◌, take, drop, Result, Ok, Err, Bool, true, false, is_err, refl, sym, ap, subst, ◌∙◌, append_assoc, append-nil}
+use Rattle.std.proofs.Common.{◌≡◌, ℕ, List, [], ◌++◌, take, drop, Result, Ok, Bool, true, false, refl, sym, ap, subst, ◌∙◌, append_assoc, append-nil}
 use Rattle.std.proofs.lemmas.Result.{on_err_weaker, on_ok_weaker}
 use Rattle.std.proofs.lemmas.List.{take-append-drop}
 use Rattle.rip_log.specs.Taken.{Taken, Took}
@@ -68,31 +68,6 @@ Began-more a b c text held more s t = Began-all a b c (text ++ more) (held ++ mo
 
 -- ---- A call that writes, after one that did not fail
 
--- a call that failed wrote a beginning of its text, and of every longer one
-pub Writes-fails : {K : Type 0} (taken : K → Taken) (broken : K → Bool) (a b : K) (e : Failed) (r : Result (Unit {0}) Failed) (text left rest : List ℕ) → is_err r ≡ true →
-    Writes taken broken a b (Err e) text left → Writes taken broken a b r text rest
-Writes-fails taken broken a b e (Ok done) text left rest fails w = absurd (cc)
-Writes-fails taken broken a b e (Err f) text left rest fails w = record {
-  ok = tt;
-  err = w.err;
-  failed = λ h. w.failed refl;
-  marks = λ h. absurd (cc);
-}
-
-pub Writes-cut : {K : Type 0} (taken : K → Taken) (broken : K → Bool) (a b : K) (e : Failed) (r : Result (Unit {0}) Failed) (text more left rest : List ℕ) → is_err r ≡ true →
-    Writes taken broken a b (Err e) text left → Writes taken broken a b r (text ++ more) rest
-Writes-cut taken broken a b e r text more left rest fails w = Writes-fails taken broken a b e r (text ++ more) left rest fails (record {
-  ok = tt;
-  err = Began-front (taken a) (taken b) text more w.err;
-  failed = w.failed;
-  marks = w.marks;
-})
-
--- the same text by another name
-pub Writes-same : {K : Type 0} (taken : K → Taken) (broken : K → Bool) (a b : K) (r : Result (Unit {0}) Failed) (text line left : List ℕ) → text ≡ line → Writes taken broken a b r text left →
-    Writes taken broken a b r line left
-Writes-same taken broken a b r text line left same w = subst (λ (l : List ℕ). Writes taken broken a b r l left) same w
-
 -- what was held, and more, is written next
 pub Writes-more : {K : Type 0} (taken : K → Taken) (broken : K → Bool) (a b c : K) (done : Unit {0}) (r : Result (Unit {0}) Failed) (text held more left : List ℕ) →
     Writes taken broken a b (Ok done) text held
@@ -114,10 +89,3 @@ Writes-held taken broken a b c done r text held left w v = record {
   failed = v.failed;
   marks = λ h. v.marks h ∙ w.marks refl;
 }
-
--- the same where nothing is held afterwards
-pub Writes-more-held : {K : Type 0} (taken : K → Taken) (broken : K → Bool) (a b c : K) (done : Unit {0}) (r : Result (Unit {0}) Failed) (text more held left : List ℕ) → left ≡ [] →
-    Writes taken broken a b (Ok done) text held
-    → Writes taken broken b c r (held ++ more) [] → Writes taken broken a c r (text ++ more) left
-Writes-more-held taken broken a b c done r text more held left none w v =
-    subst (λ (l : List ℕ). Writes taken broken a c r (text ++ more) l) (sym none) (Writes-more taken broken a b c done r text held more [] w v)

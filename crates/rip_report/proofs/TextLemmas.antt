@@ -12,13 +12,13 @@ use Rattle.rip_report.specs.Written.{line}
 use Rattle.rip_report.specs.declared.texts.text.Text.{Text}
 
 -- a text that was written is there
-pub text-written : (texts : List Text) (k : ℕ) (t : Text) (text : List ℕ) → k < length texts → text_of t ≡ text → IsText (set texts k t) k text
+pub text-written : {N : ℕ} (texts : List (Text N)) (k : ℕ) (t : Text N) (text : List ℕ) → k < length texts → text_of t ≡ text → IsText (set texts k t) k text
 text-written [] k t text lt is = absurd (omega arith)
 text-written (x ∷ texts) zero t text lt is = (t, refl, is)
 text-written (x ∷ texts) (suc k) t text lt is = text-written texts k t text (omega arith) is
 
 -- the others stay
-pub text-kept : (texts : List Text) (k j : ℕ) (t : Text) (text : List ℕ) → j ≢ k → IsText texts j text → IsText (set texts k t) j text
+pub text-kept : {N : ℕ} (texts : List (Text N)) (k j : ℕ) (t : Text N) (text : List ℕ) → j ≢ k → IsText texts j text → IsText (set texts k t) j text
 text-kept [] k j t text apart is = is
 text-kept (x ∷ texts) zero zero t text apart is = absurd (apart refl)
 text-kept (x ∷ texts) zero (suc j) t text apart is = is
@@ -26,7 +26,7 @@ text-kept (x ∷ texts) (suc k) zero t text apart is = is
 text-kept (x ∷ texts) (suc k) (suc j) t text apart is = text-kept texts k j t text (λ same. apart (ap suc same)) is
 
 -- the texts up to one, and it
-pub text-next : (texts : List Text) (k j : ℕ) (t : Text) (text : List ℕ) → k < length texts → j < k + 1 → (j < k → IsText texts j text) → (j ≡ k → text_of t ≡ text) → IsText (set texts k t) j text
+pub text-next : {N : ℕ} (texts : List (Text N)) (k j : ℕ) (t : Text N) (text : List ℕ) → k < length texts → j < k + 1 → (j < k → IsText texts j text) → (j ≡ k → text_of t ≡ text) → IsText (set texts k t) j text
 text-next texts k j t text within lt before here = by (nat_lt j k) refl
   where
     by : (b : Bool) → nat_lt j k ≡ b → IsText (set texts k t) j text
@@ -39,7 +39,7 @@ text-next texts k j t text within lt before here = by (nat_lt j k) refl
         ap_at same = rw same (text-written texts k t text within (here same))
 
 -- the text that is read at a number
-pub text-at : (texts : List Text) (k : ℕ) (d : Text) (text : List ℕ) → IsText texts k text → text_of (get_or texts k d) ≡ text
+pub text-at : {N : ℕ} (texts : List (Text N)) (k : ℕ) (d : Text N) (text : List ℕ) → IsText texts k text → text_of (get_or texts k d) ≡ text
 text-at texts k d text is = ap text_of (get_or_from_slice_get texts k is.0 d is.1) ∙ is.2
 
 -- the line of a metric in its parts

@@ -8,7 +8,7 @@ use Rattle.rip_log.specs.Logs.{Numbered}
 use Rattle.rip_log.specs.Taken.{Taken, Took}
 use Rattle.rip_log.specs.declared.limits.TheConstants.{MOST_LINES}
 use Rattle.rip_capture.specs.Captures.{CaptureFault, HasNoMore, IsNext}
-use Rattle.rip_capture.specs.Spans.{slice_of}
+use Rattle.rip_log.specs.Spans.{slice_of}
 use Rattle.rip_capture.specs.declared.error.CaptureCode.{CaptureCode}
 use Rattle.rip_capture.specs.declared.packet.Carried.{Carried}
 use Rattle.rip_capture.specs.declared.packet.Carried.TheVariants.{Datagram, Elsewhere, Others}

@@ -6,7 +6,7 @@ use Rattle.rip_wire.specs.Address.{address_text}
 use Rattle.rip_capture.specs.Captures.{IsCapture}
 use Rattle.rip_capture.specs.Carries.{Carries}
 use Rattle.rip_capture.specs.Pcap.{Frame}
-use Rattle.rip_capture.specs.Spans.{slice_of}
+use Rattle.rip_log.specs.Spans.{slice_of}
 use Rattle.rip_capture.specs.declared.error.CaptureCode.TheVariants as capture
 use Rattle.rip_capture.specs.declared.packet.Carried.{Carried}
 use Rattle.rip_capture.specs.declared.packet.Carried.TheVariants.{Datagram, Cut, Fragment, Malformed, Long, Unknown, Elsewhere, Others}

@@ -1,6 +1,6 @@
 -- What a page holds.
 use Rattle.std.specs.Prelude.{ℕ, List, take}
-use Rattle.rip_report.specs.declared.output.Page.{Page}
+use Rattle.rip_report.specs.declared.page.Page.{Page}
 
 -- the bytes that have not gone out yet
 abbrev pub held : Page → List ℕ

@@ -15,6 +15,7 @@ pub mod Finished
 pub mod AuditText
 pub mod Texts
 pub mod Listings
+pub mod Outs
 pub mod ExpectText
 pub mod RoutesText
 pub mod ExplainText

@@ -77,8 +77,13 @@ pub data UnheardLine (n : Network) (s : State) (i : ℕ) : List ℕ → Type 0 w
       → UnheardLine n s i (unheard_line n x)
   heard : IsTrue (s.heard i) → UnheardLine n s i []
 
--- the counts, the interfaces that were not heard, and the routes, router by router
+-- the interfaces that were not heard, and the routes, router by router
+pub data RoutesLines (n : Network) (s : State) : List ℕ → Type 0 where
+  lines : (silent routes : List ℕ) → TextsBelow (UnheardLine n s) (length n.interfaces) silent
+      → TextsOfPairs (RouteLine n s) (length n.routers) (length s.prefixes) routes
+      → RoutesLines n s (silent ++ routes)
+
+-- the counts, and these lines
 pub data RoutesText (n : Network) (s : State) : Written → Type 0 where
-  routes : (silent lines : List ℕ) → TextsBelow (UnheardLine n s) (length n.interfaces) silent
-      → TextsOfPairs (RouteLine n s) (length n.routers) (length s.prefixes) lines
-      → RoutesText n s (record { text = (routes_line n s ++ silent) ++ lines; status = Done })
+  routes : (lines : List ℕ) → RoutesLines n s lines
+      → RoutesText n s (record { text = routes_line n s ++ lines; status = Done })

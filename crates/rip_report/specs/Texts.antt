@@ -5,21 +5,21 @@ use Rattle.rip_report.specs.declared.texts.text.Text.{Text}
 use Rattle.rip_report.specs.declared.texts.Texts.{Texts}
 use Rattle.rip_report.specs.Written.{line}
 
-abbrev pub text_of : Text → List ℕ
+abbrev pub text_of : {N : ℕ} → Text N → List ℕ
 text_of t = take t.used t.bytes
 
 -- text k of the list is this one
-abbrev pub IsText : List Text → ℕ → List ℕ → Type 0
-IsText texts k text = (t : Text) × (slice_get texts k ≡ Some t) × (text_of t ≡ text)
+abbrev pub IsText : {N : ℕ} → List (Text N) → ℕ → List ℕ → Type 0
+IsText {N} texts k text = (t : Text N) × (slice_get texts k ≡ Some t) × (text_of t ≡ text)
 
 -- for each prefix its text and a blank
-abbrev pub AreOfPrefixes : List Block → List Text → Type 0
+abbrev pub AreOfPrefixes : {N : ℕ} → List Block → List (Text N) → Type 0
 AreOfPrefixes prefixes texts =
     (k : ℕ) (p : Block) → slice_get prefixes k ≡ Some p
     → IsText texts k (prefix_text p ++ codes " ")
 
 -- for each metric its number and the end of the line
-abbrev pub AreOfMetrics : List Text → Type 0
+abbrev pub AreOfMetrics : {N : ℕ} → List (Text N) → Type 0
 AreOfMetrics texts = (m : ℕ) → 1 ≤ m → m ≤ 16 → IsText texts m (line (decimal m))
 
 -- the texts of these prefixes, and of all metrics

@@ -5,6 +5,7 @@ use Rattle.rip_check.specs.Expected.{IsCount}
 use Rattle.rip_check.specs.Impacts.{IsImpact}
 use Rattle.rip_check.specs.Losses.{IsGone, IsLost, Loses}
 use Rattle.rip_check.specs.declared.aftermath.Impact.{Impact}
+use Rattle.rip_check.specs.declared.aftermath.Losses.{Losses}
 use Rattle.rip_check.specs.declared.failures.Failure.{Failure}
 use Rattle.rip_check.specs.declared.failures.Failure.TheVariants.{Link, Router}
 use Rattle.rip_report.specs.Listings.{TextsBelow, TextsOfPairs}
@@ -12,6 +13,8 @@ use Rattle.rip_report.specs.Names.{name_of}
 use Rattle.rip_report.specs.PlanText.{OfPlan, prefix_of}
 use Rattle.rip_report.specs.Written.{Written, line}
 use Rattle.rip_report.specs.declared.status.Status.TheVariants.{Done}
+use Rattle.rip_report.specs.declared.whatif.Kind.{Kind}
+use Rattle.rip_report.specs.declared.whatif.Kind.TheVariants.{Links, Routers}
 
 -- `9 links, 8 routers`
 abbrev pub failures_part : ℕ → ℕ → List ℕ
@@ -76,6 +79,17 @@ UnderText n f true text =
     (lost gone : List ℕ) × TextsOfPairs (LostLine n f) (length n.routers) (length n.prefixes) lost
     × TextsBelow (GoneLine n f) (length n.prefixes) gone × (text ≡ lost ++ gone)
 
+-- the same of the losses of a failure: the line of a router and a prefix, the lines of a router, and
+-- the line of a prefix
+abbrev pub LineOfLost : Losses → ℕ → ℕ → List ℕ → Type 0
+LineOfLost l = LostLine l.plan.now l.failure
+
+abbrev pub LinesOfLost : Losses → ℕ → List ℕ → Type 0
+LinesOfLost l r = TextsBelow (LineOfLost l r) (length l.plan.now.prefixes)
+
+abbrev pub LineOfGone : Losses → ℕ → List ℕ → Type 0
+LineOfGone l = GoneLine l.plan.now l.failure
+
 -- the lines of a failure
 pub record FailureText (n : Network) (all : Bool) (f : Failure) (text : List ℕ) : Type 0 where
   pub impact : Impact
@@ -99,3 +113,19 @@ pub data FailureTexts (all : Bool) (n : Network) : Written → Type 0 where
 
 abbrev pub WhatifText : Bool → List ℕ → Written → Type 0
 WhatifText all = OfPlan (FailureTexts all)
+
+-- the failure of one of a kind, by its number, how many there are, what is printed of one, and that
+-- its failure loses something
+abbrev pub failure_of : Kind → ℕ → Failure
+failure_of Links k = Link k
+failure_of Routers k = Router k
+
+abbrev pub count_of : Network → Kind → ℕ
+count_of n Links = length n.links
+count_of n Routers = length n.routers
+
+abbrev pub OneText : Network → Bool → Kind → ℕ → List ℕ → Type 0
+OneText n all kind k = FailureText n all (failure_of kind k)
+
+abbrev pub LosesOne : Network → Kind → ℕ → Type 0
+LosesOne n kind k = Loses n (failure_of kind k)

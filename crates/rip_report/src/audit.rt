@@ -1,28 +1,28 @@
 //! The command `audit`: whether the tables that a log shows are right.
 
-ghost use Rattle.std.specs.Prelude.{◌≡◌, ◌≢◌, ◌↔◌, ℕ, List, [], Err, IfOk, IfSome, None, is_err, is_some, true, Some};
+ghost use Rattle.std.specs.Prelude.{◌≡◌, ◌≢◌, ◌↔◌, ℕ, List, Err, IfOk, IfSome, None, is_err, is_some, true, Some};
 ghost use Rattle.rip_plan.specs.Network.{Network};
 ghost use Rattle.rip_plan.specs.Relations.{IsPlain};
 ghost use Rattle.rip_table.specs.State.{Fits, State};
 ghost use Rattle.rip_check.specs.Marks.{AreUnsettled};
 ghost use Rattle.rip_check.specs.Verdicts.{IsVerdict, IsNextUnsettled};
-ghost use Rattle.rip_report.specs.AuditText.{AllFailing, AnswersRightly, AuditText, FailingText, IsJudged, ShowsPlainRightTables, UnsettledLine, UnsettledLines, VerdictText, unsettled_line, verdict_status};
+ghost use Rattle.rip_report.specs.AuditText.{AnswersRightly, AuditText, FailingText, IsJudged, ShowsPlainRightTables, UnsettledLine, UnsettledLines, VerdictText, verdict_status};
 ghost use Rattle.rip_report.specs.Given.{IsGiven};
+ghost use Rattle.rip_report.specs.Outs.{AddsOne};
 ghost use Rattle.rip_report.specs.ReportText.{AreRead, IsAccepted};
 ghost use Rattle.rip_report.specs.Runs.{Reads, RefusesPlan, StopsAtRefusal};
-ghost use Rattle.rip_report.specs.Sent.{Prints, Writes};
+ghost use Rattle.rip_report.specs.Sent.{Prints};
 ghost use Rattle.rip_check.specs.Laws.{OneIsShown};
 ghost use Rattle.rip_check.specs.Told.{told};
 
-use crate::lines::verdicts::{settled_text, unclear_text, unsettled_text};
-use crate::listing::Listing;
+use crate::lines::verdicts::{push_settled_line, push_unclear_line, push_unsettled_line};
 use crate::loops::{PairText, add_pairs};
-use crate::output::{finish, write_all};
+use crate::output::Out;
 use crate::report::{Report, run_report};
 use crate::status::{RunError, Status};
 use rip_check::laws::{one_set_of_tables, plain_paths};
-use rip_check::{Place2, Unsettled, Verdict, judge};
-use rip_log::{Failed, Sink, Source};
+use rip_check::{Case, Place2, Unsettled, Verdict, judge};
+use rip_log::{Sink, Source};
 use rip_plan::Plan;
 use rip_table::MetricTable;
 use std::alloc::{AllocError, Global};
@@ -33,76 +33,35 @@ impl PairText for Unsettled {
 
     ghost is_text = { λ _ n s. FailingText n s (UnsettledLine n s) };
 
-    fn add<T: MetricTable, K: Sink>(
-        &self,
-        listing: &mut Listing,
-        plan: &Plan,
-        table: &T,
-        router: usize,
-        prefix: usize,
-        out: &mut K,
-    ) {
-        plan.lawful();
-        if let Some(place) = self.at(plan, table, router, prefix) {
-            listing.add(&unsettled_text(plan, table, &place), out);
+    fn add<T: MetricTable, K: Sink>(&self, out: &mut Out<K>, case: &Case<'_, T>, router: usize) {
+        case.plan.lawful();
+        if let Some(place) = self.at(case, router) {
+            push_unsettled_line(out, case.plan, case.table, &place);
         }
     }
 }
 
-/// Writes the lines of all places that do not hold.
-fn write_each<T: MetricTable, K: Sink>(
-    plan: &Plan,
-    table: &T,
-    places: &Unsettled,
-    out: &mut K,
-) -> Result<(), Failed>
-    requires fits { Fits plan.now (T.state table.now) }
-    requires places { AreUnsettled plan.now (told plan.now (T.state table.now)) places.now }
-    ensures { (text : List ℕ)
-        × AllFailing plan.now (T.state table.now) (UnsettledLine plan.now (T.state table.now)) text
-        × Writes K.taken K.broken out.old out.new result text [] }
-{
-    let mut listing = Listing::new();
-    add_pairs(places, &mut listing, plan, table, out);
-    listing.finish(out)
-}
-
-/// Writes the line of the first place that does not hold.
-fn write_first<T: MetricTable, K: Sink>(
-    plan: &Plan,
-    table: &T,
-    place: &Place2,
-    out: &mut K,
-) -> Result<(), Failed>
-    requires { IsNextUnsettled plan.now (told plan.now (T.state table.now)) None place.now }
-    ensures { Writes K.taken K.broken out.old out.new result
-        (unsettled_line plan.now (T.state table.now) place.now) [] }
-{
-    plan.lawful();
-    write_all(out, unsettled_text(plan, table, place).as_bytes())
-}
-
-/// Writes the lines of an unsettled network: those of all places that do not hold, where they were
+/// Adds the lines of an unsettled network: those of all places that do not hold, where they were
 /// found, or that of the first. The contract names `all`, and the code sees it by `places`.
-fn write_unsettled<T: MetricTable, K: Sink>(
+fn add_unsettled<T: MetricTable, K: Sink>(
+    out: &mut Out<K>,
     plan: &Plan,
     table: &T,
     all: bool,
     places: &Option<Unsettled>,
     place: &Place2,
-    out: &mut K,
-) -> Result<(), Failed>
+)
     requires fits { Fits plan.now (T.state table.now) }
     requires places { IfSome places.now
         (AreUnsettled plan.now (told plan.now (T.state table.now))) }
     requires all { is_some places.now ≡ all }
     requires first { IsNextUnsettled plan.now (told plan.now (T.state table.now)) None place.now }
-    ensures { (text : List ℕ) × UnsettledLines plan.now (T.state table.now) all place.now text
-        × Writes K.taken K.broken out.old out.new result text [] }
+    ensures { AddsOne out.old out.new (UnsettledLines plan.now (T.state table.now) all place.now) }
 {
+    plan.lawful();
     match places {
-        Some(places) => write_each(plan, table, places, out),
-        None => write_first(plan, table, place, out),
+        Some(places) => add_pairs(out, places, plan, table),
+        None => push_unsettled_line(out, plan, table, place),
     }
 }
 
@@ -117,32 +76,29 @@ fn status_of(verdict: &Verdict) -> Status
     }
 }
 
-/// Writes a verdict.
-fn write_verdict<T: MetricTable, K: Sink>(
+/// Adds the text of a verdict.
+fn add_verdict<T: MetricTable, K: Sink>(
+    out: &mut Out<K>,
     plan: &Plan,
     table: &T,
     all: bool,
     places: &Option<Unsettled>,
     verdict: &Verdict,
-    out: &mut K,
-) -> Result<(), Failed>
+)
     requires fits { Fits plan.now (T.state table.now) }
     requires places { IfSome places.now
         (AreUnsettled plan.now (told plan.now (T.state table.now))) }
     requires all { (place : Place2) → verdict.now ≡ Verdict.Unsettled place →
         is_some places.now ≡ all }
     requires verdict { IsVerdict plan.now (told plan.now (T.state table.now)) verdict.now }
-    ensures { (text : List ℕ) × VerdictText plan.now (T.state table.now) all
-        (record { text = text; status = verdict_status verdict.now })
-        × Writes K.taken K.broken out.old out.new result text [] }
+    ensures { AddsOne out.old out.new (λ text. VerdictText plan.now (T.state table.now) all
+        (record { text = text; status = verdict_status verdict.now })) }
 {
     plan.lawful();
     match verdict {
-        Verdict::Settled => write_all(out, settled_text(plan, table).as_bytes()),
-        Verdict::Unsettled(place) => write_unsettled(plan, table, all, places, place, out),
-        Verdict::Unclear(trouble) => {
-            write_all(out, unclear_text(plan, table, trouble).as_bytes())
-        }
+        Verdict::Settled => push_settled_line(out, plan, table),
+        Verdict::Unsettled(place) => add_unsettled(out, plan, table, all, places, place),
+        Verdict::Unclear(trouble) => push_unclear_line(out, plan, table, trouble),
     }
 }
 
@@ -175,23 +131,24 @@ fn audit_table<T: MetricTable, K: Sink>(
     plan: &Plan,
     table: &T,
     all: bool,
-    out: &mut K,
-) -> Result<Status, RunError>
+    out: K,
+) -> (K, Result<Status, RunError>)
     requires { Fits plan.now (T.state table.now) }
-    ensures prints { Prints K.taken K.broken out.old out.new result
+    ensures prints { Prints K.taken K.broken out result.0 result.1
         (VerdictText plan.now (T.state table.now) all) }
-    ensures read { result ≢ Err RunError.Read }
-    ensures memory { result ≡ Err RunError.Memory →
+    ensures read { result.1 ≢ Err RunError.Read }
+    ensures memory { result.1 ≡ Err RunError.Memory →
         (all ≡ true) × IsJudged plan.now (T.state table.now) Status.Unsettled }
-    ensures judged { IfOk result (IsJudged plan.now (T.state table.now)) }
+    ensures judged { IfOk result.1 (IsJudged plan.now (T.state table.now)) }
 {
     let verdict = judge(plan, table);
     match places_of(alloc, plan, table, all, &verdict) {
         Ok(places) => {
-            let wrote = write_verdict(plan, table, all, &places, &verdict, out);
-            finish(wrote, status_of(&verdict))
+            let mut text = Out::new(out);
+            add_verdict(&mut text, plan, table, all, &places, &verdict);
+            text.finish_with(status_of(&verdict))
         }
-        Err(_) => Err(RunError::Memory),
+        Err(_) => (out, Err(RunError::Memory)),
     }
 }
 
@@ -211,8 +168,8 @@ impl Report for Audit {
         alloc: Global,
         plan: &Plan,
         table: &T,
-        out: &mut K,
-    ) -> Result<Status, RunError> {
+        out: K,
+    ) -> (K, Result<Status, RunError>) {
         audit_table(alloc, plan, table, self.all, out)
     }
 }
@@ -224,22 +181,22 @@ pub fn run_audit<R: Source, K: Sink, S: BuildHasher + Drop>(
     alloc: Global,
     plan: &[u8],
     log: R,
-    out: &mut K,
+    out: K,
     all: bool,
     hasher: S,
-) -> (R, Result<Status, RunError>)
+) -> (R, K, Result<Status, RunError>)
     // Settled is answered exactly where the log shows right tables, and then packets arrive.
     ensures headline { (text : List ℕ) → IsGiven R.given R.at_end log result.0 text →
         (n : Network) (s : State) → AreRead plan.now text n s →
-        IfOk result.1 (AnswersRightly n s) }
+        IfOk result.2 (AnswersRightly n s) }
     // The same of all the text that was to come, where its bytes are modelled.
     ensures known { (text : List ℕ) → R.coming log ≡ Some text →
         (n : Network) (s : State) → AreRead plan.now text n s →
-        IfOk result.1 (AnswersRightly n s) }
+        IfOk result.2 (AnswersRightly n s) }
     // Of a plan that says nothing beside RFC 2453 the paths go over any neighbours.
     ensures plain { (text : List ℕ) → IsGiven R.given R.at_end log result.0 text →
         (n : Network) (s : State) → IsAccepted plan.now text n s → IsPlain n →
-        IfOk result.1 (λ status. (status ≡ Status.Settled) ↔ ShowsPlainRightTables n s) }
+        IfOk result.2 (λ status. (status ≡ Status.Settled) ↔ ShowsPlainRightTables n s) }
     // No two sets of tables are shown.
     ensures one_set { (text : List ℕ) → IsGiven R.given R.at_end log result.0 text →
         (n : Network) (s : State) → IsAccepted plan.now text n s →
@@ -247,16 +204,16 @@ pub fn run_audit<R: Source, K: Sink, S: BuildHasher + Drop>(
     // What each verdict is answered for.
     ensures judged { (text : List ℕ) → IsGiven R.given R.at_end log result.0 text →
         (n : Network) (s : State) → IsAccepted plan.now text n s →
-        IfOk result.1 (IsJudged n s) }
+        IfOk result.2 (IsJudged n s) }
     // The whole text went out, or a beginning where the sink failed, or nothing.
     ensures prints { (text : List ℕ) → IsGiven R.given R.at_end log result.0 text →
-        Prints K.taken K.broken out.old out.new result.1 (AuditText plan.now text all) }
+        Prints K.taken K.broken out result.1 result.2 (AuditText plan.now text all) }
     // What is printed of a table comes only at the source's end, and Read only where it has failed.
-    ensures reads { Reads R.given R.coming R.broken R.at_end log result.0 result.1 }
+    ensures reads { Reads R.given R.coming R.broken R.at_end log result.0 result.2 }
     // If the plan is refused, the log is not touched; one that is no text never gives Memory.
-    ensures refuses { RefusesPlan plan.now log result.0 result.1 }
+    ensures refuses { RefusesPlan plan.now log result.0 result.2 }
     // Behind the line at which a log is refused no more is pulled than a reader holds.
-    ensures stops { StopsAtRefusal R.given R.at_end plan.now log result.0 result.1 }
+    ensures stops { StopsAtRefusal R.given R.at_end plan.now log result.0 result.2 }
 {
     one_set_of_tables();
     plain_paths();

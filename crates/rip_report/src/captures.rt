@@ -8,7 +8,7 @@ mod log;
 mod packets;
 mod tally;
 
-ghost use Rattle.std.specs.Prelude.{◌≡◌, ◌≢◌, ◌⊎◌, ◌+◌, ◌^◌, ◌<◌, ◌≤◌, ◌++◌, ◌∷◌, [], ℕ, List, Some, Err, Ok, is_err, length, true};
+ghost use Rattle.std.specs.Prelude.{◌≡◌, ◌≢◌, ◌⊎◌, ◌+◌, ◌^◌, ◌<◌, ◌≤◌, ◌++◌, ◌∷◌, [], ℕ, List, Some, Err, Ok, length, true};
 ghost use Rattle.rip_report.specs.CaptureLogs.{AddsFile, AddsUnread, File, GoesOn, IsLogOf, LogOf, SaysFiles, answer_so_far, authentication_of, status_of, worse};
 ghost use Rattle.rip_log.specs.declared.limits.TheConstants.{MOST_LINES};
 ghost use Rattle.rip_report.specs.CapturePackets.{ClosesFile, EndsWith};
@@ -16,25 +16,22 @@ ghost use Rattle.rip_log.specs.Taken.{Took};
 ghost use Rattle.rip_log.specs.Wholes.{Went};
 ghost use Rattle.rip_wire.specs.Name.{IsName};
 ghost use Rattle.rip_report.specs.Given.{IsGiven};
-ghost use Rattle.rip_report.specs.Held.{held};
+ghost use Rattle.rip_report.specs.Outs.{mark_of};
 ghost use Rattle.rip_report.specs.Statuses.{fault_line_of};
 ghost use Rattle.rip_report.specs.Written.{line};
-ghost use Rattle.rip_report.specs.Sent.{Writes};
 ghost use Rattle.rip_report.specs.declared.captures.authentication.Authentication.{Authentication};
 ghost use Rattle.rip_report.specs.declared.captures.log.CaptureLog.{CaptureLog};
 ghost use Rattle.rip_report.specs.declared.captures.tally.Tally.{Tally};
-ghost use Rattle.rip_report.specs.declared.limits.TheConstants.{NAME};
 ghost use Rattle.rip_report.specs.declared.status.Status.{Status};
 
 pub use crate::captures::authentication::Authentication;
 use crate::captures::ending::Ending;
-use crate::captures::lines::{add_comment, file_refusal_text};
+use crate::captures::lines::{push_comment, push_file_refusal_line};
 pub use crate::captures::log::CaptureLog;
 use crate::captures::packets::log_packets;
 use crate::captures::tally::Tally;
 use crate::laws::logged_files;
-use crate::limits::NAME;
-use crate::listing::Listing;
+use crate::output::Out;
 use crate::status::{RunError, Status, fault_line};
 use rip_capture::CaptureReader;
 use rip_capture::laws::{early_faults, long_captures, read_captures};
@@ -53,19 +50,13 @@ fn worse(before: Status, status: Status) -> Status
 }
 
 /// Sends what is left, and ends with this answer, or with Write where the sink has failed.
-fn end_listing<K: Sink>(
-    listing: Listing,
-    answer: Result<Status, RunError>,
-    out: &mut K,
-) -> Result<Status, RunError>
+fn end_with<K: Sink>(out: Out<K>, answer: Result<Status, RunError>) -> (K, Result<Status, RunError>)
     requires { answer ≢ Err RunError.Write }
-    ensures { (start : K) (text : List ℕ) →
-        Writes K.taken K.broken start out.old listing.wrote text (held listing.page) →
-        EndsWith K.taken K.broken start out.new text answer result }
+    ensures { EndsWith out.start (mark_of K.taken K.broken result.0) out.text answer result.1 }
 {
-    match listing.finish(out) {
-        Ok(()) => answer,
-        Err(Failed) => Err(RunError::Write),
+    match out.finish() {
+        (sink, Ok(())) => (sink, answer),
+        (sink, Err(Failed)) => (sink, Err(RunError::Write)),
     }
 }
 
@@ -74,26 +65,26 @@ fn close_whole<K: Sink>(
     log: &mut CaptureLog,
     link: &str,
     tally: Tally,
-    mut listing: Listing,
-    out: &mut K,
-) -> Result<Status, RunError>
-    requires link { length link.now ≤ NAME }
+    mut out: Out<K>,
+) -> (K, Result<Status, RunError>)
     requires later { log.old.lines ≤ tally.lines }
     requires room { tally.lines < MOST_LINES }
-    ensures closes { ClosesFile K.taken K.broken out.old out.new log.old log.new link.now listing
-        (Ending.Whole tally) result }
+    ensures closes { ClosesFile out.start (mark_of K.taken K.broken result.0) log.old log.new
+        link.now out.text (Ending.Whole tally) result.1 }
     ensures authentication { authentication_of log.new ≡ authentication_of log.old }
 {
     let number = log.files + 1;
-    add_comment(&mut listing, number, link, &tally.counts, out);
-    let status = end_listing(listing, Ok(tally.counts.status()), out)?;
-    *log = CaptureLog {
-        authentication: log.authentication,
-        files: number,
-        lines: tally.lines + 1,
-        status: worse(log.status, status),
-    };
-    Ok(status)
+    push_comment(&mut out, number, link, &tally.counts);
+    let (sink, answer) = end_with(out, Ok(tally.counts.status()));
+    if let Ok(status) = answer {
+        *log = CaptureLog {
+            authentication: log.authentication,
+            files: number,
+            lines: tally.lines + 1,
+            status: worse(log.status, status),
+        };
+    }
+    (sink, answer)
 }
 
 /// Adds the last line of a file, and tells the log of it.
@@ -101,95 +92,97 @@ fn close_file<K: Sink>(
     log: &mut CaptureLog,
     link: &str,
     ending: Ending,
-    mut listing: Listing,
-    out: &mut K,
-) -> Result<Status, RunError>
-    requires link { length link.now ≤ NAME }
+    mut out: Out<K>,
+) -> (K, Result<Status, RunError>)
     requires whole { (tally : Tally) → ending ≡ Ending.Whole tally →
         (log.old.lines ≤ tally.lines) × (tally.lines < MOST_LINES) }
-    requires unwritten { ending ≡ Ending.Unwritten → is_err listing.wrote ≡ true }
-    ensures closes { ClosesFile K.taken K.broken out.old out.new log.old log.new link.now listing
-        ending result }
+    requires unwritten { ending ≡ Ending.Unwritten → out.failed ≡ true }
+    ensures closes { ClosesFile out.start (mark_of K.taken K.broken result.0) log.old log.new
+        link.now out.text ending result.1 }
     ensures authentication { authentication_of log.new ≡ authentication_of log.old }
 {
     match ending {
-        Ending::Whole(tally) => close_whole(log, link, tally, listing, out),
+        Ending::Whole(tally) => close_whole(log, link, tally, out),
         Ending::Refused { code, at } => {
-            listing.add(&file_refusal_text(log.files + 1, link, code, at), out);
-            end_listing(listing, Ok(Status::Refused), out)
+            push_file_refusal_line(&mut out, log.files + 1, link, code, at);
+            end_with(out, Ok(Status::Refused))
         }
         Ending::Unread => {
-            listing.add_text("failed: read\n", out);
-            end_listing(listing, Err(RunError::Read), out)
+            out.push("failed: read\n");
+            end_with(out, Err(RunError::Read))
         }
-        Ending::Unwritten => Err(RunError::Write),
+        Ending::Unwritten => {
+            let (sink, _) = out.finish();
+            (sink, Err(RunError::Write))
+        }
     }
 }
 
 /// Writes the line of a failure as the last one of a log, so that nobody takes the log for a whole
-/// one: a file could not be opened, or there is no memory for one.
-pub fn log_failure<K: Sink>(error: RunError, out: &mut K) -> Result<Status, RunError>
+/// one: a file could not be opened, or there is no memory for one. The sink comes back.
+pub fn log_failure<K: Sink>(error: RunError, out: K) -> (K, Result<Status, RunError>)
     requires { error ≢ RunError.Write }
-    ensures ends { EndsWith K.taken K.broken out.old out.new (line (fault_line_of error))
-        (Err error) result }
+    ensures ends { EndsWith (mark_of K.taken K.broken out) (mark_of K.taken K.broken result.0)
+        (line (fault_line_of error)) (Err error) result.1 }
     // Behind a log of files it makes the log that ends with one more, whatever that is.
     ensures goes_on { (log : CaptureLog) (files : List File) (text : List ℕ) (file : File) →
-        IsLogOf log files text → result ≢ Err RunError.Write → (part : List ℕ)
-        × Took (K.taken out.old) (K.taken out.new) part
-        × LogOf (authentication_of log) (files ++ file ∷ []) (text ++ part) result }
-    // No log with this line has no bad line.
+        IsLogOf log files text → result.1 ≢ Err RunError.Write → (part : List ℕ)
+        × Took (K.taken out) (K.taken result.0) part
+        × LogOf (authentication_of log) (files ++ file ∷ []) (text ++ part) result.1 }
+    // A log with this line has a bad line.
     ensures says { (how : Authentication) (files : List File) (text : List ℕ) (status : Status)
         (file : File) → SaysFiles how files text (Ok status) →
-        result ≢ Err RunError.Write → (part : List ℕ)
-        × Took (K.taken out.old) (K.taken out.new) part
-        × SaysFiles how (files ++ file ∷ []) (text ++ part) result }
+        result.1 ≢ Err RunError.Write → (part : List ℕ)
+        × Took (K.taken out) (K.taken result.0) part
+        × SaysFiles how (files ++ file ∷ []) (text ++ part) result.1 }
 {
     logged_files();
     two_texts();
-    let mut listing = Listing::new();
-    listing.add_text(fault_line(&error), out);
-    listing.add_text("\n", out);
-    end_listing(listing, Err(error), out)
+    let mut text = Out::new(out);
+    text.push(fault_line(&error));
+    text.end();
+    end_with(text, Err(error))
 }
 
 /// Writes what a log has of a capture file of a link, behind the files that were written before: a
 /// line for each packet that carries a RIP datagram to 224.0.0.9, and a comment that counts all
 /// packets. Where the file is refused or cannot be read, the last line says so, no comment follows,
-/// and no file should. It allocates one buffer, of the same size for every file.
+/// and no file should. The source and the sink come back. It allocates one buffer, of the same size
+/// for every file.
 pub fn run_log<R: Source, K: Sink>(
     alloc: Global,
     log: &mut CaptureLog,
     link: &str,
     file: R,
-    out: &mut K,
-) -> (R, Result<Status, RunError>)
+    out: K,
+) -> (R, K, Result<Status, RunError>)
     requires { IsName link.now }
     // The whole text went out, or a beginning where the sink failed.
     ensures prints { (bytes : List ℕ) → IsGiven R.given R.at_end file result.0 bytes →
-        AddsFile K.taken K.broken out.old out.new log.old log.new link.now bytes result.1 }
+        AddsFile K.taken K.broken out result.1 log.old log.new link.now bytes result.2 }
     // Where the source failed, no packet is left out that it gave whole.
     ensures unread { (bytes : List ℕ) → R.given result.0 ≡ R.given file ++ bytes →
-        result.1 ≡ Err RunError.Read →
-        AddsUnread K.taken out.old out.new (authentication_of log.old) link.now bytes }
+        result.2 ≡ Err RunError.Read →
+        AddsUnread K.taken out result.1 (authentication_of log.old) link.now bytes }
     // Where there is no memory, the file comes back as it was.
-    ensures untouched { result.1 ≡ Err RunError.Memory → result.0 ≡ file }
+    ensures untouched { result.2 ≡ Err RunError.Memory → result.0 ≡ file }
     // Behind a log of files that are captures it has the log of one more, or one that ends with it.
     ensures goes_on { (bytes : List ℕ) → IsGiven R.given R.at_end file result.0 bytes →
         (files : List File) (text : List ℕ) → IsLogOf log.old files text →
-        result.1 ≢ Err RunError.Write → (part : List ℕ)
-        × Took (K.taken out.old) (K.taken out.new) part
+        result.2 ≢ Err RunError.Write → (part : List ℕ)
+        × Took (K.taken out) (K.taken result.1) part
         × GoesOn log.new (files ++ record { link = link.now; bytes = bytes } ∷ [])
-        (text ++ part) result.1 }
+        (text ++ part) result.2 }
     // Behind a log that says the datagrams of some files, and nothing else, it says those of this
     // one too, or has a bad line.
     ensures says { (bytes : List ℕ) → IsGiven R.given R.at_end file result.0 bytes →
         (files : List File) (text : List ℕ) →
         SaysFiles (authentication_of log.old) files text (Ok (status_of log.old)) →
-        result.1 ≢ Err RunError.Write → (part : List ℕ)
-        × Took (K.taken out.old) (K.taken out.new) part
+        result.2 ≢ Err RunError.Write → (part : List ℕ)
+        × Took (K.taken out) (K.taken result.1) part
         × SaysFiles (authentication_of log.old)
         (files ++ record { link = link.now; bytes = bytes } ∷ []) (text ++ part)
-        (answer_so_far log.new result.1) }
+        (answer_so_far log.new result.2) }
     // What becomes of the authentication of datagrams stays.
     ensures authentication { authentication_of log.new ≡ authentication_of log.old }
     // The bytes given are the first of those to come, where these are modelled.
@@ -198,10 +191,10 @@ pub fn run_log<R: Source, K: Sink>(
         IsGiven R.given R.at_end file result.0 bytes }
     // Read only where the source has failed, or a file has 2^64 - 2^32 bytes or more.
     ensures read { (bytes : List ℕ) → IsGiven R.given R.at_end file result.0 bytes →
-        result.1 ≡ Err RunError.Read →
+        result.2 ≡ Err RunError.Read →
         (R.broken result.0 ≡ true) ⊎ (2 ^ 64 ≤ length bytes + 2 ^ 32) }
     // Every other answer but Write leaves the source's mark as it was.
-    ensures source { result.1 ≢ Err RunError.Read → result.1 ≢ Err RunError.Write →
+    ensures source { result.2 ≢ Err RunError.Read → result.2 ≢ Err RunError.Write →
         R.broken result.0 ≡ R.broken file }
 {
     long_captures();
@@ -210,14 +203,17 @@ pub fn run_log<R: Source, K: Sink>(
     logged_files();
     two_texts();
     match CaptureReader::new(alloc, file) {
-        Err((_, file)) => (file, log_failure(RunError::Memory, out)),
+        Err((_, file)) => {
+            let (out, answer) = log_failure(RunError::Memory, out);
+            (file, out, answer)
+        }
         Ok(mut reader) => {
-            let mut listing = Listing::new();
+            let mut text = Out::new(out);
             let authentication = log.authentication;
             let lines = log.lines;
-            let ending = log_packets(&mut reader, link, authentication, lines, &mut listing, out);
-            let answer = close_file(log, link, ending, listing, out);
-            (reader.into_source(), answer)
+            let ending = log_packets(&mut reader, link, authentication, lines, &mut text);
+            let (out, answer) = close_file(log, link, ending, text);
+            (reader.into_source(), out, answer)
         }
     }
 }

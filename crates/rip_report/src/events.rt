@@ -35,14 +35,14 @@ pub(crate) trait EventReport<L: Listener> {
         plan: &Plan,
         table: &T,
         listener: &L,
-        out: &mut K,
-    ) -> Result<Status, RunError>
+        out: K,
+    ) -> (K, Result<Status, RunError>)
         requires fits { Fits plan.now (T.state table.now) }
         requires suits { L.suits plan.now listener.now }
         ensures prints { (events : List EventAt) → L.holds listener.now events →
-            Prints K.taken K.broken out.old out.new result
+            Prints K.taken K.broken out result.0 result.1
             (is_text self.now plan.now events (T.state table.now)) }
-        ensures read { result ≢ Err RunError.Read };
+        ensures read { result.1 ≢ Err RunError.Read };
 }
 
 /// Writes the report on a log by its plan. The table is new, and the listener has heard nothing.
@@ -54,20 +54,23 @@ fn report_to<C: EventReport<L>, L: Listener, R: Source, K: Sink, T: MetricTable>
     log: R,
     table: &mut T,
     listener: &mut L,
-    out: &mut K,
-) -> (R, Result<Status, RunError>)
+    out: K,
+) -> (R, K, Result<Status, RunError>)
     requires table { T.state table.old ≡ new_state plan.now }
     requires suits { L.suits plan.now listener.old }
     requires new { L.holds listener.old [] }
     ensures prints { (text : List ℕ) → IsGiven R.given R.at_end log result.0 text →
-        Prints K.taken K.broken out.old out.new result.1
+        Prints K.taken K.broken out result.1 result.2
         (EventsOf (C.is_text command.now plan.now) plan.now text) }
-    ensures reads { ReadsOn R.given R.coming R.broken R.at_end log result.0 result.1 }
+    ensures reads { ReadsOn R.given R.coming R.broken R.at_end log result.0 result.2 }
 {
     let (source, heard) = hear_log(alloc, plan, log, table, listener);
     match heard {
-        Ok(()) => (source, command.write(alloc, plan, table, listener, out)),
-        Err(error) => (source, Err(error)),
+        Ok(()) => {
+            let (out, answer) = command.write(alloc, plan, table, listener, out);
+            (source, out, answer)
+        }
+        Err(error) => (source, out, Err(error)),
     }
 }
 
@@ -86,19 +89,19 @@ pub(crate) fn report_events<
     plan: &Plan,
     log: R,
     listener: &mut L,
-    out: &mut K,
+    out: K,
     hasher: S,
-) -> (R, Result<Status, RunError>)
+) -> (R, K, Result<Status, RunError>)
     requires suits { L.suits plan.now listener.old }
     requires new { L.holds listener.old [] }
     ensures prints { (text : List ℕ) → IsGiven R.given R.at_end log result.0 text →
-        Prints K.taken K.broken out.old out.new result.1
+        Prints K.taken K.broken out result.1 result.2
         (EventsOf (C.is_text command.now plan.now) plan.now text) }
-    ensures reads { ReadsOn R.given R.coming R.broken R.at_end log result.0 result.1 }
+    ensures reads { ReadsOn R.given R.coming R.broken R.at_end log result.0 result.2 }
 {
     match GridTable::with_hasher(alloc, plan, hasher) {
         Ok(mut table) => report_to(alloc, command, plan, log, &mut table, listener, out),
-        Err(_) => (log, Err(RunError::Memory)),
+        Err(_) => (log, out, Err(RunError::Memory)),
     }
 }
 
@@ -109,24 +112,27 @@ pub(crate) fn run_counted<C: EventReport<Counts>, R: Source, K: Sink, S: BuildHa
     command: &C,
     plan: &[u8],
     log: R,
-    out: &mut K,
+    out: K,
     hasher: S,
-) -> (R, Result<Status, RunError>)
+) -> (R, K, Result<Status, RunError>)
     ensures prints { (text : List ℕ) → IsGiven R.given R.at_end log result.0 text →
-        Prints K.taken K.broken out.old out.new result.1
+        Prints K.taken K.broken out result.1 result.2
         (EventsText (C.is_text command.now) plan.now text) }
-    ensures reads { ReadsOn R.given R.coming R.broken R.at_end log result.0 result.1 }
+    ensures reads { ReadsOn R.given R.coming R.broken R.at_end log result.0 result.2 }
     // Of a log that is accepted nothing is left out.
     ensures accepted { (text : List ℕ) → IsGiven R.given R.at_end log result.0 text →
-        (n : Network) (s : State) → IsAccepted plan.now text n s → IfOk result.1
-        (WentOut (OfAccepted (C.is_text command.now) n s) (K.taken out.old) (K.taken out.new)) }
-    ensures refuses { RefusesPlan plan.now log result.0 result.1 }
+        (n : Network) (s : State) → IsAccepted plan.now text n s → IfOk result.2
+        (WentOut (OfAccepted (C.is_text command.now) n s) (K.taken out) (K.taken result.1)) }
+    ensures refuses { RefusesPlan plan.now log result.0 result.2 }
 {
     one_plan();
     well_formed_texts();
     accepted_logs();
     match Plan::read(alloc, plan) {
         Ok(plan) => report_events(alloc, command, &plan, log, &mut Counts::new(), out, hasher),
-        Err(error) => (log, refuse_plan(error, out)),
+        Err(error) => {
+            let (out, answer) = refuse_plan(error, out);
+            (log, out, answer)
+        }
     }
 }

@@ -20,16 +20,15 @@ ghost use Rattle.rip_report.specs.ReportText.{AreRead, IsAccepted, ReportText};
 ghost use Rattle.rip_report.specs.Runs.{Reads, RefusesPlan, StopsAtRefusal};
 ghost use Rattle.rip_report.specs.Sent.{Prints, WentOut};
 
-use crate::lines::verdicts::settled_text;
-use crate::listing::Listing;
+use crate::lines::verdicts::push_settled_line;
 use crate::loops::{PairText, add_pairs};
-use crate::output::finish;
+use crate::output::Out;
 use crate::report::{Report, run_report};
 use crate::status::{RunError, Status};
-use lines::unreachable_text;
+use lines::push_unreachable_line;
 use places::{FailingPlaces, add_place};
 use rip_check::laws::{one_set_of_tables, plain_paths};
-use rip_check::{Expected, Place2, Unclear, Unsettled, Verdict, judge, least_metric};
+use rip_check::{Case, Expected, Place2, Unclear, Unsettled, Verdict, judge, least_metric};
 use rip_log::{Sink, Source};
 use rip_plan::Plan;
 use rip_table::MetricTable;
@@ -48,17 +47,11 @@ impl PairText for Unreachable {
 
     ghost is_text = { λ _ n s r p. UnreachableLine n s r p };
 
-    fn add<T: MetricTable, K: Sink>(
-        &self,
-        listing: &mut Listing,
-        plan: &Plan,
-        table: &T,
-        router: usize,
-        prefix: usize,
-        out: &mut K,
-    ) {
-        if prefix < plan.prefixes() && self.expected.metric(plan, router, prefix).get() == 16 {
-            listing.add(&unreachable_text(plan, table, router, prefix), out);
+    fn add<T: MetricTable, K: Sink>(&self, out: &mut Out<K>, case: &Case<'_, T>, router: usize) {
+        if case.prefix < case.plan.prefixes()
+            && self.expected.metric(case.plan, router, case.prefix).get() == 16
+        {
+            push_unreachable_line(out, case, router);
         }
     }
 }
@@ -68,21 +61,21 @@ fn explain_settled<T: MetricTable, K: Sink>(
     alloc: Global,
     plan: &Plan,
     table: &T,
-    out: &mut K,
-) -> Result<Status, RunError>
+    out: K,
+) -> (K, Result<Status, RunError>)
     requires fits { Fits plan.now (T.state table.now) }
     requires right { ShowsRightTables plan.now (told plan.now (T.state table.now)) }
-    ensures prints { (all : Bool) → Prints K.taken K.broken out.old out.new result
+    ensures prints { (all : Bool) → Prints K.taken K.broken out result.0 result.1
         (ExplainText plan.now (T.state table.now) all) }
-    ensures read { result ≢ Err RunError.Read }
+    ensures read { result.1 ≢ Err RunError.Read }
 {
     let Ok(expected) = Expected::find(alloc, plan) else {
-        return Err(RunError::Memory);
+        return (out, Err(RunError::Memory));
     };
-    let mut listing = Listing::new();
-    listing.add(&settled_text(plan, table), out);
-    add_pairs(&Unreachable { expected }, &mut listing, plan, table, out);
-    finish(listing.finish(out), Status::Settled)
+    let mut text = Out::new(out);
+    push_settled_line(&mut text, plan, table);
+    add_pairs(&mut text, &Unreachable { expected }, plan, table);
+    text.finish_with(Status::Settled)
 }
 
 /// Writes the first place that does not hold, and what it comes from.
@@ -90,20 +83,20 @@ fn explain_place<T: MetricTable, K: Sink>(
     plan: &Plan,
     table: &T,
     place: &Place2,
-    out: &mut K,
-) -> Result<Status, RunError>
+    out: K,
+) -> (K, Result<Status, RunError>)
     requires fits { Fits plan.now (T.state table.now) }
     requires shows { ShowsTables plan.now (told plan.now (T.state table.now)) }
     requires first { IsNextUnsettled plan.now (told plan.now (T.state table.now)) None place.now }
-    ensures prints { Prints K.taken K.broken out.old out.new result
+    ensures prints { Prints K.taken K.broken out result.0 result.1
         (ExplainText plan.now (T.state table.now) false) }
-    ensures read { result ≢ Err RunError.Read }
+    ensures read { result.1 ≢ Err RunError.Read }
 {
     plan.lawful();
     let least = least_metric(plan, place.router, place.prefix);
-    let mut listing = Listing::new();
-    add_place(&mut listing, plan, table, place, least, out);
-    finish(listing.finish(out), Status::Unsettled)
+    let mut text = Out::new(out);
+    add_place(&mut text, plan, table, place, least);
+    text.finish_with(Status::Unsettled)
 }
 
 /// Writes all places that do not hold, and what they come from.
@@ -111,26 +104,25 @@ fn explain_places<T: MetricTable, K: Sink>(
     alloc: Global,
     plan: &Plan,
     table: &T,
-    out: &mut K,
-) -> Result<Status, RunError>
+    out: K,
+) -> (K, Result<Status, RunError>)
     requires fits { Fits plan.now (T.state table.now) }
     requires shows { ShowsTables plan.now (told plan.now (T.state table.now)) }
     requires first { (place : Place2)
         × IsNextUnsettled plan.now (told plan.now (T.state table.now)) None place }
-    ensures prints { Prints K.taken K.broken out.old out.new result
+    ensures prints { Prints K.taken K.broken out result.0 result.1
         (ExplainText plan.now (T.state table.now) true) }
-    ensures read { result ≢ Err RunError.Read }
+    ensures read { result.1 ≢ Err RunError.Read }
 {
     let Ok(places) = Unsettled::find(alloc, plan, table) else {
-        return Err(RunError::Memory);
+        return (out, Err(RunError::Memory));
     };
     let Ok(expected) = Expected::find(alloc, plan) else {
-        return Err(RunError::Memory);
+        return (out, Err(RunError::Memory));
     };
-    let mut listing = Listing::new();
-    let failing = FailingPlaces { places, expected };
-    add_pairs(&failing, &mut listing, plan, table, out);
-    finish(listing.finish(out), Status::Unsettled)
+    let mut text = Out::new(out);
+    add_pairs(&mut text, &FailingPlaces { places, expected }, plan, table);
+    text.finish_with(Status::Unsettled)
 }
 
 /// Writes the first place that does not hold, or all, and what they come from.
@@ -140,14 +132,14 @@ fn explain_unsettled<T: MetricTable, K: Sink>(
     table: &T,
     all: bool,
     first: &Place2,
-    out: &mut K,
-) -> Result<Status, RunError>
+    out: K,
+) -> (K, Result<Status, RunError>)
     requires fits { Fits plan.now (T.state table.now) }
     requires shows { ShowsTables plan.now (told plan.now (T.state table.now)) }
     requires first { IsNextUnsettled plan.now (told plan.now (T.state table.now)) None first.now }
-    ensures prints { Prints K.taken K.broken out.old out.new result
+    ensures prints { Prints K.taken K.broken out result.0 result.1
         (ExplainText plan.now (T.state table.now) all) }
-    ensures read { result ≢ Err RunError.Read }
+    ensures read { result.1 ≢ Err RunError.Read }
 {
     if all {
         explain_places(alloc, plan, table, out)
@@ -162,18 +154,18 @@ fn explain_unclear<T: MetricTable, K: Sink>(
     table: &T,
     all: bool,
     first: &Unclear,
-    out: &mut K,
-) -> Result<Status, RunError>
+    out: K,
+) -> (K, Result<Status, RunError>)
     requires fits { Fits plan.now (T.state table.now) }
     requires first { IsFirstTrouble plan.now (told plan.now (T.state table.now)) first.now }
-    ensures prints { Prints K.taken K.broken out.old out.new result
+    ensures prints { Prints K.taken K.broken out result.0 result.1
         (ExplainText plan.now (T.state table.now) all) }
-    ensures read { result ≢ Err RunError.Read }
+    ensures read { result.1 ≢ Err RunError.Read }
 {
     plan.lawful();
-    let mut listing = Listing::new();
-    add_unclear(&mut listing, plan, table, all, first, out);
-    finish(listing.finish(out), Status::Unclear)
+    let mut text = Out::new(out);
+    add_unclear(&mut text, plan, table, all, first);
+    text.finish_with(Status::Unclear)
 }
 
 /// Judges a table, and writes the verdict and what it comes from.
@@ -182,13 +174,13 @@ fn explain_table<T: MetricTable, K: Sink>(
     plan: &Plan,
     table: &T,
     all: bool,
-    out: &mut K,
-) -> Result<Status, RunError>
+    out: K,
+) -> (K, Result<Status, RunError>)
     requires { Fits plan.now (T.state table.now) }
-    ensures prints { Prints K.taken K.broken out.old out.new result
+    ensures prints { Prints K.taken K.broken out result.0 result.1
         (ExplainText plan.now (T.state table.now) all) }
-    ensures read { result ≢ Err RunError.Read }
-    ensures judged { IfOk result (IsJudged plan.now (T.state table.now)) }
+    ensures read { result.1 ≢ Err RunError.Read }
+    ensures judged { IfOk result.1 (IsJudged plan.now (T.state table.now)) }
 {
     match judge(plan, table) {
         Verdict::Settled => explain_settled(alloc, plan, table, out),
@@ -213,8 +205,8 @@ impl Report for Explain {
         alloc: Global,
         plan: &Plan,
         table: &T,
-        out: &mut K,
-    ) -> Result<Status, RunError> {
+        out: K,
+    ) -> (K, Result<Status, RunError>) {
         explain_table(alloc, plan, table, self.all, out)
     }
 }
@@ -230,22 +222,22 @@ pub fn run_explain<R: Source, K: Sink, S: BuildHasher + Drop>(
     alloc: Global,
     plan: &[u8],
     log: R,
-    out: &mut K,
+    out: K,
     all: bool,
     hasher: S,
-) -> (R, Result<Status, RunError>)
+) -> (R, K, Result<Status, RunError>)
     // Settled is answered exactly where the log shows right tables, and then packets arrive.
     ensures headline { (text : List ℕ) → IsGiven R.given R.at_end log result.0 text →
         (n : Network) (s : State) → AreRead plan.now text n s →
-        IfOk result.1 (AnswersRightly n s) }
+        IfOk result.2 (AnswersRightly n s) }
     // The same of all the text that was to come, where its bytes are modelled.
     ensures known { (text : List ℕ) → R.coming log ≡ Some text →
         (n : Network) (s : State) → AreRead plan.now text n s →
-        IfOk result.1 (AnswersRightly n s) }
+        IfOk result.2 (AnswersRightly n s) }
     // Of a plan that says nothing beside RFC 2453 the paths go over any neighbours.
     ensures plain { (text : List ℕ) → IsGiven R.given R.at_end log result.0 text →
         (n : Network) (s : State) → IsAccepted plan.now text n s → IsPlain n →
-        IfOk result.1 (λ status. (status ≡ Status.Settled) ↔ ShowsPlainRightTables n s) }
+        IfOk result.2 (λ status. (status ≡ Status.Settled) ↔ ShowsPlainRightTables n s) }
     // No two sets of tables are shown.
     ensures one_set { (text : List ℕ) → IsGiven R.given R.at_end log result.0 text →
         (n : Network) (s : State) → IsAccepted plan.now text n s →
@@ -253,25 +245,25 @@ pub fn run_explain<R: Source, K: Sink, S: BuildHasher + Drop>(
     // What each verdict is answered for.
     ensures judged { (text : List ℕ) → IsGiven R.given R.at_end log result.0 text →
         (n : Network) (s : State) → IsAccepted plan.now text n s →
-        IfOk result.1 (IsJudged n s) }
+        IfOk result.2 (IsJudged n s) }
     // Without `all` the first line is that of `audit`.
     ensures verdict { all ≡ false → (text : List ℕ) → IsGiven R.given R.at_end log result.0 text →
         (n : Network) (s : State) → IsAccepted plan.now text n s →
-        IfOk result.1 (WentOut (BeginsWithVerdict n s) (K.taken out.old) (K.taken out.new)) }
+        IfOk result.2 (WentOut (BeginsWithVerdict n s) (K.taken out) (K.taken result.1)) }
     // With `all` the places that do not hold are those that `audit` names with `all`.
     ensures places { all ≡ true → (text : List ℕ) → IsGiven R.given R.at_end log result.0 text →
         (n : Network) (s : State) → IsAccepted plan.now text n s →
-        IfOk result.1 (WentOut (ExplainsAll n s) (K.taken out.old) (K.taken out.new)) }
+        IfOk result.2 (WentOut (ExplainsAll n s) (K.taken out) (K.taken result.1)) }
     // The whole text went out, or a beginning where the sink failed, or nothing.
     ensures prints { (text : List ℕ) → IsGiven R.given R.at_end log result.0 text →
-        Prints K.taken K.broken out.old out.new result.1
+        Prints K.taken K.broken out result.1 result.2
         (ReportText (λ n s. ExplainText n s all) plan.now text) }
     // What is printed of a table comes only at the source's end, and Read only where it has failed.
-    ensures reads { Reads R.given R.coming R.broken R.at_end log result.0 result.1 }
+    ensures reads { Reads R.given R.coming R.broken R.at_end log result.0 result.2 }
     // If the plan is refused, the log is not touched; one that is no text never gives Memory.
-    ensures refuses { RefusesPlan plan.now log result.0 result.1 }
+    ensures refuses { RefusesPlan plan.now log result.0 result.2 }
     // Behind the line at which a log is refused no more is pulled than a reader holds.
-    ensures stops { StopsAtRefusal R.given R.at_end plan.now log result.0 result.1 }
+    ensures stops { StopsAtRefusal R.given R.at_end plan.now log result.0 result.2 }
 {
     one_set_of_tables();
     plain_paths();

@@ -1,34 +1,31 @@
 //! What `heard` prints: who is in a log, and all that is refused.
 
 mod interfaces;
-mod kinds;
 mod lines;
 mod nobody;
 mod strangers;
 mod who;
 
-ghost use Rattle.std.specs.Prelude.{◌≡◌, ◌≢◌, ℕ, List, [], Err, length, IfOk, IfErr};
-ghost use Rattle.rip_table.specs.State.{new_state};
+ghost use Rattle.std.specs.Prelude.{◌≡◌, ◌≢◌, ℕ, List, Err, length};
 ghost use Rattle.rip_report.specs.Given.{IsGiven};
 ghost use Rattle.rip_report.specs.Hearings.{HeardOf};
 ghost use Rattle.rip_table.specs.Events.{EventAt};
 ghost use Rattle.rip_table.specs.Tallies.{HasHeard, interfaces_of};
-ghost use Rattle.rip_report.specs.HeardText.{HeardLines, HeardText, heard_of, heard_status};
+ghost use Rattle.rip_report.specs.HeardText.{HeardLines, HeardText, heard_line, heard_of, heard_status};
+ghost use Rattle.rip_report.specs.Outs.{Adds, AddsOne};
 ghost use Rattle.rip_report.specs.Runs.{ReadsOn, RefusesPlan};
-ghost use Rattle.rip_report.specs.Sent.{Prints, Writes};
+ghost use Rattle.rip_report.specs.Sent.{Prints};
 
 use crate::events::{EventReport, report_events};
 use crate::heard::interfaces::add_interfaces;
-use crate::heard::kinds::add_counted;
-use crate::heard::lines::heard_text;
-use crate::heard::nobody::add_plain_bad;
+use crate::heard::lines::push_counted_line;
+use crate::heard::nobody::push_plain_bad;
 use crate::heard::strangers::add_strangers;
-use crate::left_out::is_all_joined;
-use crate::listing::Listing;
-use crate::output::finish;
+use crate::left_out::{is_all_joined, push_left_out};
+use crate::output::Out;
 use crate::refusal::refuse_plan;
 use crate::status::{RunError, Status};
-use rip_log::{Failed, Sink, Source};
+use rip_log::{Sink, Source};
 use rip_plan::Plan;
 use rip_table::{Counts, MetricTable, Tallies};
 use std::alloc::Global;
@@ -60,52 +57,56 @@ fn status_of(heard: usize, interfaces: usize, counts: Counts) -> Status
     }
 }
 
-/// Writes the lines, of which the first tells that so many interfaces were heard.
-fn write_lines<S: BuildHasher + Drop, K: Sink>(
+/// Adds the first line: how many interfaces were heard, and how many lines came to what.
+#[tactic(auto, unfolding(crate::specs::HeardText::heard_line))]
+fn push_heard_line<K: Sink>(out: &mut Out<K>, heard: usize, interfaces: usize, counts: Counts)
+    ensures { Adds out.old out.new (heard_line heard interfaces counts) }
+{
+    out.push("heard: ");
+    out.push_number(heard as u64);
+    out.push(" of ");
+    out.push_number(interfaces as u64);
+    out.push(" interfaces, ");
+    out.push_number(u64::from(counts.joined));
+    out.push(" responses");
+    push_left_out(out, counts);
+    out.end();
+}
+
+/// Adds the lines, of which the first tells that so many interfaces were heard.
+fn add_lines<S: BuildHasher + Drop, K: Sink>(
+    out: &mut Out<K>,
     plan: &Plan,
     tallies: &Tallies<S>,
     heard: usize,
-    out: &mut K,
-) -> Result<(), Failed>
+)
     requires { interfaces_of tallies.now ≡ length plan.now.interfaces }
-    ensures { (events : List EventAt) → HasHeard tallies.now events → (text : List ℕ)
-        × HeardLines plan.now events heard text
-        × Writes K.taken K.broken out.old out.new result text [] }
+    ensures { (events : List EventAt) → HasHeard tallies.now events →
+        AddsOne out.old out.new (HeardLines plan.now events heard) }
 {
-    let mut listing = Listing::new();
-    listing.add(&heard_text(heard, plan.interfaces(), tallies.counts()), out);
-    add_interfaces(&mut listing, plan, tallies, out);
-    add_strangers(&mut listing, plan, tallies, out);
-    add_counted(
-        &mut listing,
-        "other strangers ",
-        tallies.other_strangers(),
-        out,
-    );
-    add_plain_bad(&mut listing, tallies, out);
-    add_counted(
-        &mut listing,
-        "other requests ",
-        tallies.other_requests(),
-        out,
-    );
-    listing.finish(out)
+    push_heard_line(out, heard, plan.interfaces(), tallies.counts());
+    add_interfaces(out, plan, tallies);
+    add_strangers(out, plan, tallies);
+    push_counted_line(out, "other strangers ", tallies.other_strangers());
+    push_plain_bad(out, tallies);
+    push_counted_line(out, "other requests ", tallies.other_requests());
 }
 
 /// Writes who is in a log, and all that is refused, by what its lines came to.
 pub(crate) fn write_heard<S: BuildHasher + Drop, K: Sink>(
     plan: &Plan,
     tallies: &Tallies<S>,
-    out: &mut K,
-) -> Result<Status, RunError>
+    out: K,
+) -> (K, Result<Status, RunError>)
     requires { interfaces_of tallies.now ≡ length plan.now.interfaces }
     ensures prints { (events : List EventAt) → HasHeard tallies.now events →
-        Prints K.taken K.broken out.old out.new result (HeardText plan.now events) }
-    ensures read { result ≢ Err RunError.Read }
+        Prints K.taken K.broken out result.0 result.1 (HeardText plan.now events) }
+    ensures read { result.1 ≢ Err RunError.Read }
 {
     let heard = count_heard(plan, tallies);
-    let status = status_of(heard, plan.interfaces(), tallies.counts());
-    finish(write_lines(plan, tallies, heard, out), status)
+    let mut text = Out::new(out);
+    add_lines(&mut text, plan, tallies, heard);
+    text.finish_with(status_of(heard, plan.interfaces(), tallies.counts()))
 }
 
 /// The command `heard`.
@@ -121,8 +122,8 @@ impl<S: BuildHasher + Drop> EventReport<Tallies<S>> for Heard {
         plan: &Plan,
         _: &T,
         tallies: &Tallies<S>,
-        out: &mut K,
-    ) -> Result<Status, RunError> {
+        out: K,
+    ) -> (K, Result<Status, RunError>) {
         write_heard(plan, tallies, out)
     }
 }
@@ -137,24 +138,27 @@ pub fn run_heard<R: Source, K: Sink, S: BuildHasher + Drop>(
     alloc: Global,
     plan: &[u8],
     log: R,
-    out: &mut K,
+    out: K,
     prefixes: S,
     strangers: S,
-) -> (R, Result<Status, RunError>)
+) -> (R, K, Result<Status, RunError>)
     // The whole text went out, or a beginning where the sink failed, or nothing.
     ensures prints { (text : List ℕ) → IsGiven R.given R.at_end log result.0 text →
-        Prints K.taken K.broken out.old out.new result.1 (HeardOf plan.now text) }
+        Prints K.taken K.broken out result.1 result.2 (HeardOf plan.now text) }
     // Read only where the source has failed, or a line has more than 2^64 - 1 bytes.
-    ensures reads { ReadsOn R.given R.coming R.broken R.at_end log result.0 result.1 }
+    ensures reads { ReadsOn R.given R.coming R.broken R.at_end log result.0 result.2 }
     // If the plan is refused, the log is not touched; one that is no text never gives Memory.
-    ensures refuses { RefusesPlan plan.now log result.0 result.1 }
+    ensures refuses { RefusesPlan plan.now log result.0 result.2 }
 {
     let plan = match Plan::read(alloc, plan) {
         Ok(plan) => plan,
-        Err(error) => return (log, refuse_plan(error, out)),
+        Err(error) => {
+            let (out, answer) = refuse_plan(error, out);
+            return (log, out, answer);
+        }
     };
     match Tallies::with_hasher(alloc, &plan, strangers) {
         Ok(mut tallies) => report_events(alloc, &Heard, &plan, log, &mut tallies, out, prefixes),
-        Err(_) => (log, Err(RunError::Memory)),
+        Err(_) => (log, out, Err(RunError::Memory)),
     }
 }

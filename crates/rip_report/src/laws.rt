@@ -48,7 +48,7 @@ pub fn accepted_logs()
 }
 
 /// Where a plan and a log are accepted, the headline of `audit` and of `explain` speaks of them, the
-/// answer is not Refused, and what they print is the verdict's text.
+/// answer is not Refused, and what is printed is the text of the verdict, or of its explanation.
 pub fn accepted_answers()
     ensures read { (plan text : List ℕ) (n : Network) (s : State) →
         IsAccepted plan text n s → AreRead plan text n s }

@@ -1,111 +1,177 @@
-//! Writing text to a sink.
+//! Text on its way to a sink.
 
-ghost use Rattle.std.specs.Prelude.{◌≡◌, ◌+◌, ◌≤◌, ◌++◌, [], length};
-ghost use Rattle.rip_report.specs.declared.limits.TheConstants.{PAGE_BYTES};
-ghost use Rattle.rip_report.specs.Finished.{finished};
-ghost use Rattle.rip_report.specs.Sent.{Writes};
+ghost use Rattle.std.specs.Prelude.{◌≡◌, ◌≢◌, ◌∷◌, ◌++◌, [], true, false, decimal, is_err, Err};
+ghost use Rattle.rip_report.specs.Finished.{Ends};
+ghost use Rattle.rip_report.specs.Names.{numbered};
+ghost use Rattle.rip_report.specs.Outs.{Adds, Stands, mark_of};
+ghost use Rattle.rip_wire.specs.Address.{address_text};
+ghost use Rattle.rip_wire.specs.Prefix.{prefix_text};
 
-use crate::limits::PAGE_BYTES;
+use crate::page::Page;
+use crate::seen::Seen;
 use crate::status::{RunError, Status};
-use rip_log::{Failed, Sink};
+use itoa::Buffer;
+use rip_log::{Failed, History, Sink};
+use rip_wire::{Address, Metric, Prefix};
+use std::marker::Model;
 
-/// Writes all bytes. Where the sink fails, a beginning of them is out.
-pub(crate) fn write_all<K: Sink>(out: &mut K, bytes: &[u8]) -> Result<(), Failed>
-    ensures { Writes K.taken K.broken out.old out.new result bytes.now [] }
-{
-    let mut at = 0;
-    'pieces: while at < bytes.len() {
-        at += out.push(&bytes[at..])?;
-    }
-    Ok(())
-}
+/// Room for the text of an address.
+const ADDRESS_BYTES: usize = "255.255.255.255".len();
 
-/// How a run ends that has written.
-pub(crate) fn finish(wrote: Result<(), Failed>, status: Status) -> Result<Status, RunError>
-    ensures { result ≡ finished wrote status }
-{
-    match wrote {
-        Ok(()) => Ok(status),
-        Err(Failed) => Err(RunError::Write),
-    }
-}
+/// Room for the text of a prefix.
+pub(crate) const PREFIX_BYTES: usize = "255.255.255.255/32".len();
 
-/// Text that has not gone out yet.
+/// Text on its way to a sink. After a failed write more text may be added, which is not written:
+/// what went out is a beginning of all text that was added.
 #[derive(Drop)]
-pub(crate) struct Page {
-    bytes: [u8; PAGE_BYTES],
-    used: usize,
-    ghost within: { used ≤ PAGE_BYTES },
+pub(crate) struct Out<K: Sink> {
+    sink: K,
+    page: Page,
+    wrote: Result<(), Failed>,
+    // For proofs alone: all text that was added, and the sink as it stood before it.
+    added: History,
+    start: Seen<K>,
 }
 
-impl Page {
+impl<K: Sink> Model for Out<K> {
+    ghost use Rattle.std.specs.Prelude.{is_err};
     ghost use Rattle.rip_report.specs.Held.{held};
+    ghost use Rattle.rip_report.specs.Outs.{Progress, Stands, mark_of, noted};
 
-    /// An empty page.
-    pub(crate) fn new() -> Page
-        ensures { held result ≡ [] }
+    ghost Value = { Progress };
+
+    ghost view = { λ o. record {
+      start = mark_of K.taken K.broken o.start.value;
+      text = noted o.added.outcomes;
+      failed = is_err o.wrote;
+    } };
+
+    ghost invariant = { λ o. Stands (mark_of K.taken K.broken o.start.value)
+        (mark_of K.taken K.broken o.sink) o.wrote (noted o.added.outcomes) (held o.page) };
+}
+
+impl<K: Sink> Out<K> {
+    /// No text yet, on its way to this sink.
+    pub(crate) fn new(sink: K) -> Out<K>
+        ensures start { result.start ≡ mark_of K.taken K.broken sink }
+        ensures text { result.text ≡ [] }
+        ensures failed { result.failed ≡ false }
     {
-        Page {
-            bytes: [0; PAGE_BYTES],
-            used: 0,
+        let start = Seen::of(&sink);
+        Out {
+            sink,
+            page: Page::new(),
+            wrote: Ok(()),
+            added: History::new(),
+            start,
         }
     }
 
-    /// Adds bytes that there is room for.
-    fn add(&mut self, bytes: &[u8])
-        requires { self.old.used + length bytes.now ≤ PAGE_BYTES }
-        ensures held { held self.new ≡ held self.old ++ bytes.now }
-        ensures used { self.new.used ≡ self.old.used + length bytes.now }
+    /// Adds bytes.
+    pub(crate) fn push_bytes(&mut self, bytes: &[u8])
+        ensures { Adds self.old self.new bytes.now }
     {
-        let end = self.used + bytes.len();
-        self.bytes[self.used..end].copy_from_slice(bytes);
-        self.used = end;
+        self.added.note(bytes);
+        self.page.push(&mut self.sink, &mut self.wrote, bytes);
     }
 
-    /// Sends what the page holds.
-    pub(crate) fn flush<K: Sink>(&mut self, out: &mut K) -> Result<(), Failed>
-        ensures writes { Writes K.taken K.broken out.old out.new result (held self.old) [] }
-        ensures empty { held self.new ≡ [] }
-        ensures room { self.new.used ≡ 0 }
+    /// Adds three parts at once, for a loop that adds very many.
+    pub(crate) fn push_parts(&mut self, front: &[u8], middle: &[u8], end: &[u8])
+        ensures { Adds self.old self.new (front.now ++ (middle.now ++ end.now)) }
     {
-        let used = self.used;
-        self.used = 0;
-        write_all(out, &self.bytes[..used])
+        self.added.note(front);
+        self.added.note(middle);
+        self.added.note(end);
+        self.page
+            .push_parts(&mut self.sink, &mut self.wrote, front, middle, end);
     }
 
-    /// Adds a line of three parts, and sends what the page has no room for.
-    pub(crate) fn write_line<K: Sink>(
-        &mut self,
-        out: &mut K,
-        front: &[u8],
-        middle: &[u8],
-        end: &[u8],
-    ) -> Result<(), Failed>
-        requires { length front.now + length middle.now + length end.now ≤ PAGE_BYTES }
-        ensures { Writes K.taken K.broken out.old out.new result
-            (held self.old ++ (front.now ++ (middle.now ++ end.now))) (held self.new) }
+    /// Adds text.
+    pub(crate) fn push(&mut self, text: &str)
+        ensures { Adds self.old self.new text.now }
     {
-        if front.len() + middle.len() + end.len() > PAGE_BYTES - self.used {
-            self.flush(out)?;
-        }
-        self.add(front);
-        self.add(middle);
-        self.add(end);
-        Ok(())
+        self.push_bytes(text.as_bytes());
     }
 
-    /// Adds bytes, and sends what the page has no room for.
-    pub(crate) fn write<K: Sink>(&mut self, out: &mut K, bytes: &[u8]) -> Result<(), Failed>
-        ensures { Writes K.taken K.broken out.old out.new result
-            (held self.old ++ bytes.now) (held self.new) }
+    /// Adds a number in decimal digits.
+    pub(crate) fn push_number(&mut self, number: u64)
+        ensures { Adds self.old self.new (decimal number) }
     {
-        if bytes.len() > PAGE_BYTES - self.used {
-            self.flush(out)?;
-            if bytes.len() > PAGE_BYTES {
-                return write_all(out, bytes);
+        self.push(Buffer::new().format(number));
+    }
+
+    /// Adds a word and a number.
+    pub(crate) fn push_numbered(&mut self, word: &str, number: usize)
+        ensures { Adds self.old self.new (numbered word.now number) }
+    {
+        self.push(word);
+        self.push_number(number as u64);
+    }
+
+    /// Adds a metric.
+    pub(crate) fn push_metric(&mut self, metric: Metric)
+        ensures { Adds self.old self.new (decimal metric) }
+    {
+        self.push_number(u64::from(metric.get()));
+    }
+
+    /// Adds an address.
+    pub(crate) fn push_address(&mut self, address: Address)
+        ensures { Adds self.old self.new (address_text address) }
+    {
+        self.push(address.encode(&mut [0; ADDRESS_BYTES]));
+    }
+
+    /// Adds a prefix.
+    pub(crate) fn push_prefix(&mut self, prefix: Prefix)
+        ensures { Adds self.old self.new (prefix_text prefix) }
+    {
+        self.push(prefix.encode(&mut [0; PREFIX_BYTES]));
+    }
+
+    /// Ends the line.
+    pub(crate) fn end(&mut self)
+        ensures { Adds self.old self.new (10 ∷ []) }
+    {
+        self.push("\n");
+    }
+
+    /// Whether a write has failed, so that a loop may stop early.
+    pub(crate) fn has_failed(&self) -> bool
+        ensures { result ≡ self.now.failed }
+    {
+        self.wrote.is_err()
+    }
+
+    /// Sends what is left. The sink comes back, and whether all text went out.
+    pub(crate) fn finish(self) -> (K, Result<(), Failed>)
+        ensures stands { Stands self.start (mark_of K.taken K.broken result.0) result.1 self.text [] }
+        ensures failed { self.failed ≡ true → is_err result.1 ≡ true }
+    {
+        let Out {
+            mut sink,
+            mut page,
+            wrote,
+            ..
+        } = self;
+        match wrote {
+            Ok(()) => {
+                let sent = page.flush(&mut sink);
+                (sink, sent)
             }
+            Err(Failed) => (sink, Err(Failed)),
         }
-        self.add(bytes);
-        Ok(())
+    }
+
+    /// Sends what is left, and ends a run with this status, or with Write where the sink has failed.
+    pub(crate) fn finish_with(self, status: Status) -> (K, Result<Status, RunError>)
+        ensures ends { Ends self status (mark_of K.taken K.broken result.0) result.1 }
+        ensures read { result.1 ≢ Err RunError.Read }
+        ensures memory { result.1 ≢ Err RunError.Memory }
+    {
+        match self.finish() {
+            (sink, Ok(())) => (sink, Ok(status)),
+            (sink, Err(Failed)) => (sink, Err(RunError::Write)),
+        }
     }
 }

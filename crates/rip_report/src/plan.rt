@@ -1,261 +1,228 @@
 //! The command `plan`: the parts of a plan.
 
-ghost use Rattle.std.specs.Prelude.{◌≡◌, ◌≢◌, ◌+◌, ◌≤◌, ◌<◌, ◌++◌, [], Err, IfSome, length};
+ghost use Rattle.std.specs.Prelude.{◌≢◌, ◌<◌, Err, IfSome, length};
 ghost use Rattle.std.specs.List.{flat_map};
-ghost use Rattle.rip_report.specs.declared.limits.TheConstants.{CODE_WORD, GATEWAY, LINE_BYTES, NAMED, NUMBERED, PLAN_CODE, POSITION, SEAT, WORDS};
+ghost use Rattle.rip_report.specs.Outs.{Adds};
 ghost use Rattle.rip_report.specs.PlanText.{IsNoText, IsSeat, PlanText, address_part, also_text, attached_text, counts_line, direct_text, gateway_text, interface_line, interface_lines, interface_text, kept_text, place_line, poison_text, seat_text, shown_plan};
-ghost use Rattle.rip_report.specs.Held.{held};
-ghost use Rattle.rip_report.specs.Sent.{Prints, Writes};
+ghost use Rattle.rip_report.specs.Sent.{Prints};
 
-use crate::line::Line;
 use crate::names::{push_link, push_router};
-use crate::output::{Page, finish};
+use crate::output::Out;
 use crate::refusal::refuse_plan;
 use crate::status::{RunError, Status};
-use rip_log::{Failed, Sink};
+use rip_log::Sink;
 use rip_plan::{Interface, Place, Plan, Seat};
 use rip_wire::Address;
 use std::alloc::Global;
 
-/// The line of the counts.
+/// Adds the line of the counts.
 #[tactic(auto, unfolding(crate::specs::PlanText::counts_line))]
-fn counts_text(plan: &Plan) -> Line
-    ensures { result ≡ counts_line plan.now }
+fn push_counts_line<K: Sink>(out: &mut Out<K>, plan: &Plan)
+    ensures { Adds out.old out.new (counts_line plan.now) }
 {
-    let mut text = Line::new();
-    text.push("plan: ");
-    text.push_number(plan.routers() as u64);
-    text.push(" routers, ");
-    text.push_number(plan.links() as u64);
-    text.push(" links, ");
-    text.push_number(plan.interfaces() as u64);
-    text.push(" interfaces, ");
-    text.push_number(plan.prefixes() as u64);
-    text.push(" prefixes");
-    text.end();
-    text
+    out.push("plan: ");
+    out.push_number(plan.routers() as u64);
+    out.push(" routers, ");
+    out.push_number(plan.links() as u64);
+    out.push(" links, ");
+    out.push_number(plan.interfaces() as u64);
+    out.push(" interfaces, ");
+    out.push_number(plan.prefixes() as u64);
+    out.push(" prefixes");
+    out.end();
 }
 
 /// Adds the metric at which a router has the prefixes of a link, where it is not the cost.
-fn push_direct(text: &mut Line, interface: Interface)
-    requires { length text.old + NUMBERED ≤ LINE_BYTES }
-    ensures text { text.new ≡ text.old ++ direct_text interface }
-    ensures size { length text.new ≤ length text.old + NUMBERED }
+fn push_direct<K: Sink>(out: &mut Out<K>, interface: Interface)
+    ensures { Adds out.old out.new (direct_text interface) }
 {
     if interface.direct != interface.cost {
-        text.push(" direct ");
-        text.push_number(u64::from(interface.direct));
+        out.push(" direct ");
+        out.push_number(u64::from(interface.direct));
     }
 }
 
 /// Adds that an interface does not poison, where that is so.
-fn push_poison(text: &mut Line, poison: bool)
-    requires { length text.old + WORDS ≤ LINE_BYTES }
-    ensures text { text.new ≡ text.old ++ poison_text poison }
-    ensures size { length text.new ≤ length text.old + WORDS }
+fn push_poison<K: Sink>(out: &mut Out<K>, poison: bool)
+    ensures { Adds out.old out.new (poison_text poison) }
 {
     if !poison {
-        text.push(" poison false");
+        out.push(" poison false");
     }
 }
 
-/// The line of an interface, as far as its further addresses.
+/// Adds the line of an interface, as far as its further addresses.
 #[tactic(auto, unfolding(crate::specs::PlanText::interface_text))]
-fn interface_text(plan: &Plan, interface: Interface) -> Line
+fn push_interface_text<K: Sink>(out: &mut Out<K>, plan: &Plan, interface: Interface)
     requires router { interface.router < length plan.now.routers }
     requires link { interface.link < length plan.now.links }
-    ensures { result ≡ interface_text plan.now interface }
+    ensures { Adds out.old out.new (interface_text plan.now interface) }
 {
-    let mut text = Line::new();
-    text.push("interface ");
-    push_router(&mut text, plan, interface.router);
-    text.push(" ");
-    push_link(&mut text, plan, interface.link);
-    text.push(" ");
-    text.push_address(interface.address);
-    text.push(" cost ");
-    text.push_number(u64::from(interface.cost));
+    out.push("interface ");
+    push_router(out, plan, interface.router);
+    out.push(" ");
+    push_link(out, plan, interface.link);
+    out.push(" ");
+    out.push_address(interface.address);
+    out.push(" cost ");
+    out.push_number(u64::from(interface.cost));
     let poison = interface.poison;
-    push_direct(&mut text, interface);
-    push_poison(&mut text, poison);
-    text
+    push_direct(out, interface);
+    push_poison(out, poison);
 }
 
 /// A further address and the blank before it.
-fn address_part(address: Address) -> Line
-    ensures { result ≡ address_part address }
+fn push_address_part<K: Sink>(out: &mut Out<K>, address: Address)
+    ensures { Adds out.old out.new (address_part address) }
 {
-    let mut text = Line::new();
-    text.push(" ");
-    text.push_address(address);
-    text
+    out.push(" ");
+    out.push_address(address);
 }
 
-/// Writes addresses, each after a blank.
-fn write_addresses<K: Sink>(
-    page: &mut Page,
-    addresses: &[Address],
-    out: &mut K,
-) -> Result<(), Failed>
-    ensures { Writes K.taken K.broken out.old out.new result
-        (held page.old ++ flat_map address_part addresses.now) (held page.new) }
+/// Adds addresses, each after a blank.
+fn push_addresses<K: Sink>(out: &mut Out<K>, addresses: &[Address])
+    ensures { Adds out.old out.new (flat_map address_part addresses.now) }
 {
     for address in addresses {
-        page.write(out, address_part(*address).as_bytes())?;
+        push_address_part(out, *address);
     }
-    Ok(())
 }
 
-/// Writes the further addresses of an interface, which may be more than a line has room for.
-fn write_also<K: Sink>(page: &mut Page, also: &[Address], out: &mut K) -> Result<(), Failed>
-    ensures { Writes K.taken K.broken out.old out.new result
-        (held page.old ++ also_text also.now) (held page.new) }
+/// Adds the further addresses of an interface.
+fn push_also<K: Sink>(out: &mut Out<K>, also: &[Address])
+    ensures { Adds out.old out.new (also_text also.now) }
 {
-    if also.is_empty() {
-        return Ok(());
+    if !also.is_empty() {
+        out.push(" also");
+        push_addresses(out, also);
     }
-    page.write(out, " also".as_bytes())?;
-    write_addresses(page, also, out)
 }
 
-/// Writes the line of an interface.
-fn write_interface<K: Sink>(
-    page: &mut Page,
+/// Adds the line of an interface.
+#[tactic(auto, unfolding(crate::specs::PlanText::interface_line))]
+fn push_interface_line<K: Sink>(
+    out: &mut Out<K>,
     plan: &Plan,
     interface: Interface,
     also: &[Address],
-    out: &mut K,
-) -> Result<(), Failed>
+)
     requires router { interface.router < length plan.now.routers }
     requires link { interface.link < length plan.now.links }
-    ensures { Writes K.taken K.broken out.old out.new result
-        (held page.old ++ interface_line plan.now interface also.now) (held page.new) }
+    ensures { Adds out.old out.new (interface_line plan.now interface also.now) }
 {
-    page.write(out, interface_text(plan, interface).as_bytes())?;
-    write_also(page, also, out)?;
-    page.write(out, "\n".as_bytes())
+    push_interface_text(out, plan, interface);
+    push_also(out, also);
+    out.end();
 }
 
-/// Writes the lines of the interfaces.
-fn write_interfaces<K: Sink>(page: &mut Page, plan: &Plan, out: &mut K) -> Result<(), Failed>
-    ensures { Writes K.taken K.broken out.old out.new result
-        (held page.old ++ interface_lines plan.now) (held page.new) }
+/// Adds the lines of the interfaces.
+fn push_interfaces<K: Sink>(out: &mut Out<K>, plan: &Plan)
+    ensures { Adds out.old out.new (interface_lines plan.now) }
 {
     plan.lawful();
     for i in 0..plan.interfaces() {
-        write_interface(page, plan, plan.interface(i), plan.also(i), out)?;
+        push_interface_line(out, plan, plan.interface(i), plan.also(i));
     }
-    Ok(())
 }
 
 /// Adds that a router keeps a prefix of its own, where the plan says so.
-fn push_kept(text: &mut Line, kept: bool)
-    requires { length text.old + WORDS ≤ LINE_BYTES }
-    ensures text { text.new ≡ text.old ++ kept_text kept }
-    ensures size { length text.new ≤ length text.old + WORDS }
+fn push_kept<K: Sink>(out: &mut Out<K>, kept: bool)
+    ensures { Adds out.old out.new (kept_text kept) }
 {
     if kept {
-        text.push(" kept");
+        out.push(" kept");
     }
 }
 
 /// Adds the link to which a prefix is attached, if it is.
-fn push_attached(text: &mut Line, plan: &Plan, link: Option<usize>)
+fn push_attached<K: Sink>(out: &mut Out<K>, plan: &Plan, link: Option<usize>)
     requires known { IfSome link (λ l. l < length plan.now.links) }
-    requires room { length text.old + NAMED ≤ LINE_BYTES }
-    ensures text { text.new ≡ text.old ++ attached_text plan.now link }
-    ensures size { length text.new ≤ length text.old + NAMED }
+    ensures { Adds out.old out.new (attached_text plan.now link) }
 {
     if let Some(link) = link {
-        text.push(" link ");
-        push_link(text, plan, link);
+        out.push(" link ");
+        push_link(out, plan, link);
     }
 }
 
 /// Adds the gateway of a prefix, if it has one.
-fn push_gateway(text: &mut Line, via: Option<Address>)
-    requires { length text.old + GATEWAY ≤ LINE_BYTES }
-    ensures text { text.new ≡ text.old ++ gateway_text via }
-    ensures size { length text.new ≤ length text.old + GATEWAY }
+fn push_gateway<K: Sink>(out: &mut Out<K>, via: Option<Address>)
+    ensures { Adds out.old out.new (gateway_text via) }
 {
     if let Some(gateway) = via {
-        text.push(" via ");
-        text.push_address(gateway);
+        out.push(" via ");
+        out.push_address(gateway);
     }
 }
 
 /// Adds the seat of a place.
-fn push_seat(text: &mut Line, plan: &Plan, seat: Seat)
+fn push_seat<K: Sink>(out: &mut Out<K>, plan: &Plan, seat: Seat)
     requires known { IsSeat plan.now seat }
-    requires room { length text.old + SEAT ≤ LINE_BYTES }
-    ensures text { text.new ≡ text.old ++ seat_text plan.now seat }
-    ensures size { length text.new ≤ length text.old + SEAT }
+    ensures { Adds out.old out.new (seat_text plan.now seat) }
 {
     match seat {
         Seat::Link(link) => {
-            text.push(" link ");
-            push_link(text, plan, link);
+            out.push(" link ");
+            push_link(out, plan, link);
         }
         Seat::Own(own) => {
-            text.push(" router ");
-            push_router(text, plan, own.router);
-            text.push(" cost ");
-            text.push_number(u64::from(own.cost));
-            push_kept(text, own.kept);
-            push_attached(text, plan, own.link);
-            push_gateway(text, own.via);
+            out.push(" router ");
+            push_router(out, plan, own.router);
+            out.push(" cost ");
+            out.push_number(u64::from(own.cost));
+            push_kept(out, own.kept);
+            push_attached(out, plan, own.link);
+            push_gateway(out, own.via);
         }
     }
 }
 
-/// The line of a place.
+/// Adds the line of a place.
 #[tactic(auto, unfolding(crate::specs::PlanText::place_line))]
-fn place_text(plan: &Plan, place: Place) -> Line
+fn push_place_line<K: Sink>(out: &mut Out<K>, plan: &Plan, place: Place)
     requires prefix { place.prefix < length plan.now.prefixes }
     requires seat { IsSeat plan.now place.seat }
-    ensures { result ≡ place_line plan.now place }
+    ensures { Adds out.old out.new (place_line plan.now place) }
 {
-    let mut text = Line::new();
-    text.push("prefix ");
-    text.push_prefix(plan.prefix(place.prefix));
-    push_seat(&mut text, plan, place.seat);
-    text.end();
-    text
+    out.push("prefix ");
+    out.push_prefix(plan.prefix(place.prefix));
+    push_seat(out, plan, place.seat);
+    out.end();
 }
 
-/// Writes the lines of the places.
-fn write_places<K: Sink>(page: &mut Page, plan: &Plan, out: &mut K) -> Result<(), Failed>
-    ensures { Writes K.taken K.broken out.old out.new result
-        (held page.old ++ flat_map (place_line plan.now) plan.now.places) (held page.new) }
+/// Adds the lines of the places.
+fn push_places<K: Sink>(out: &mut Out<K>, plan: &Plan)
+    ensures { Adds out.old out.new (flat_map (place_line plan.now) plan.now.places) }
 {
     plan.lawful();
     for k in 0..plan.places() {
-        page.write(out, place_text(plan, plan.place(k)).as_bytes())?;
+        push_place_line(out, plan, plan.place(k));
     }
-    Ok(())
 }
 
-/// Writes a plan: its counts, its interfaces and its places.
-fn write_plan<K: Sink>(plan: &Plan, out: &mut K) -> Result<(), Failed>
-    ensures { Writes K.taken K.broken out.old out.new result (shown_plan plan.now).text [] }
+/// Adds a plan: its counts, its interfaces and its places.
+fn push_plan<K: Sink>(out: &mut Out<K>, plan: &Plan)
+    ensures { Adds out.old out.new (shown_plan plan.now).text }
 {
-    let mut page = Page::new();
-    page.write(out, counts_text(plan).as_bytes())?;
-    write_interfaces(&mut page, plan, out)?;
-    write_places(&mut page, plan, out)?;
-    page.flush(out)
+    push_counts_line(out, plan);
+    push_interfaces(out, plan);
+    push_places(out, plan);
 }
 
-/// Prints the plan in a TOML document, or the document's first fault.
-pub fn run_plan<K: Sink>(alloc: Global, plan: &[u8], out: &mut K) -> Result<Status, RunError>
+/// Prints the plan in a TOML document, or the document's first fault. The sink comes back.
+pub fn run_plan<K: Sink>(alloc: Global, plan: &[u8], out: K) -> (K, Result<Status, RunError>)
     // The whole text went out, or a beginning where the sink failed, or nothing.
-    ensures prints { Prints K.taken K.broken out.old out.new result (PlanText plan.now) }
-    ensures read { result ≢ Err RunError.Read }
+    ensures prints { Prints K.taken K.broken out result.0 result.1 (PlanText plan.now) }
+    ensures read { result.1 ≢ Err RunError.Read }
     // Too many bytes, or bytes that are not UTF-8, never give Memory.
-    ensures no_text { IsNoText plan.now → result ≢ Err RunError.Memory }
+    ensures no_text { IsNoText plan.now → result.1 ≢ Err RunError.Memory }
 {
     match Plan::read(alloc, plan) {
-        Ok(plan) => finish(write_plan(&plan, out), Status::Done),
+        Ok(plan) => {
+            let mut text = Out::new(out);
+            push_plan(&mut text, &plan);
+            text.finish_with(Status::Done)
+        }
         Err(error) => refuse_plan(error, out),
     }
 }

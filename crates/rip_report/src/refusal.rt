@@ -3,126 +3,124 @@
 mod plan;
 mod wire;
 
-ghost use Rattle.std.specs.Prelude.{◌≡◌, ◌+◌, ◌≤◌, ◌++◌, length};
-ghost use Rattle.rip_report.specs.declared.limits.TheConstants.{CAUSE, LINE_BYTES, LOG_CODE, LOG_LINE, PREFIX_PART, TABLE_ERROR, TWO_NUMBERS, WORDS};
+ghost use Rattle.std.specs.Prelude.{◌≡◌, ◌≢◌, Err, IfOk};
+ghost use Rattle.rip_report.specs.Outs.{Adds};
+ghost use Rattle.rip_report.specs.Sent.{Prints};
 ghost use Rattle.rip_report.specs.RefusalText.{at_line, cause_text, change_text, log_code_text, prefix_part, refused_log, table_error_text};
 
-use crate::line::Line;
+use crate::output::Out;
+use crate::status::{RunError, Status};
 pub(crate) use plan::refuse_plan;
-use rip_log::LogCode;
+use rip_log::{LogCode, Sink};
 use rip_table::{CollectCause, CollectError, TableError};
 use rip_wire::{Metric, Prefix};
 pub(crate) use wire::push_wire_fault;
 
 /// Adds the number and the word of a code of a log.
 #[tactic(auto, unfolding(crate::specs::RefusalText::log_code_text))]
-pub(crate) fn push_log_code(text: &mut Line, code: LogCode)
-    requires { length text.old + LOG_CODE ≤ LINE_BYTES }
-    ensures text { text.new ≡ text.old ++ log_code_text code }
-    ensures size { length text.new ≤ length text.old + LOG_CODE }
+pub(crate) fn push_log_code<K: Sink>(out: &mut Out<K>, code: LogCode)
+    ensures { Adds out.old out.new (log_code_text code) }
 {
     match code {
-        LogCode::LongLine => text.push("1 LongLine"),
-        LogCode::Fields => text.push("2 Fields"),
-        LogCode::LinkName => text.push("3 LinkName"),
-        LogCode::Sender => text.push("4 Sender"),
-        LogCode::Hex => text.push("5 Hex"),
-        LogCode::LongDatagram => text.push("6 LongDatagram"),
+        LogCode::LongLine => out.push("1 LongLine"),
+        LogCode::Fields => out.push("2 Fields"),
+        LogCode::LinkName => out.push("3 LinkName"),
+        LogCode::Sender => out.push("4 Sender"),
+        LogCode::Hex => out.push("5 Hex"),
+        LogCode::LongDatagram => out.push("6 LongDatagram"),
         LogCode::Wire(error) => {
-            text.push("7 Wire ");
-            push_wire_fault(text, error);
+            out.push("7 Wire ");
+            push_wire_fault(out, error);
         }
-        LogCode::TooManyLines => text.push("8 TooManyLines"),
-        LogCode::Read => text.push("9 Read"),
-        LogCode::Ended => text.push("10 Ended"),
-        LogCode::Memory => text.push("11 Memory"),
+        LogCode::TooManyLines => out.push("8 TooManyLines"),
+        LogCode::Read => out.push("9 Read"),
+        LogCode::Ended => out.push("10 Ended"),
+        LogCode::Memory => out.push("11 Memory"),
     }
 }
 
 /// Adds a prefix, after its word.
-fn push_prefix_part(text: &mut Line, prefix: Prefix)
-    requires { length text.old + PREFIX_PART ≤ LINE_BYTES }
-    ensures text { text.new ≡ text.old ++ prefix_part prefix }
-    ensures size { length text.new ≤ length text.old + PREFIX_PART }
+fn push_prefix_part<K: Sink>(out: &mut Out<K>, prefix: Prefix)
+    ensures { Adds out.old out.new (prefix_part prefix) }
 {
-    text.push(" prefix ");
-    text.push_prefix(prefix);
+    out.push(" prefix ");
+    out.push_prefix(prefix);
 }
 
 /// Adds from which metric to which.
-fn push_change(text: &mut Line, old: Metric, new: Metric)
-    requires { length text.old + TWO_NUMBERS ≤ LINE_BYTES }
-    ensures text { text.new ≡ text.old ++ change_text old new }
-    ensures size { length text.new ≤ length text.old + TWO_NUMBERS }
+fn push_change<K: Sink>(out: &mut Out<K>, old: Metric, new: Metric)
+    ensures { Adds out.old out.new (change_text old new) }
 {
-    text.push(" from ");
-    text.push_metric(old);
-    text.push(" to ");
-    text.push_metric(new);
+    out.push(" from ");
+    out.push_metric(old);
+    out.push(" to ");
+    out.push_metric(new);
 }
 
 /// Adds the number and the word of what a table refuses.
 #[tactic(auto, unfolding(crate::specs::RefusalText::table_error_text))]
-pub(crate) fn push_table_error(text: &mut Line, error: TableError)
-    requires { length text.old + TABLE_ERROR ≤ LINE_BYTES }
-    ensures text { text.new ≡ text.old ++ table_error_text error }
-    ensures size { length text.new ≤ length text.old + TABLE_ERROR }
+pub(crate) fn push_table_error<K: Sink>(out: &mut Out<K>, error: TableError)
+    ensures { Adds out.old out.new (table_error_text error) }
 {
     match error {
         TableError::Changed { prefix, old, new } => {
-            text.push("1 Changed");
-            push_prefix_part(text, prefix);
-            push_change(text, old, new);
+            out.push("1 Changed");
+            push_prefix_part(out, prefix);
+            push_change(out, old, new);
         }
         TableError::NextHop { prefix } => {
-            text.push("2 NextHop");
-            push_prefix_part(text, prefix);
+            out.push("2 NextHop");
+            push_prefix_part(out, prefix);
         }
-        TableError::TooManyPrefixes => text.push("3 TooManyPrefixes"),
-        TableError::Memory => text.push("4 Memory"),
+        TableError::TooManyPrefixes => out.push("3 TooManyPrefixes"),
+        TableError::Memory => out.push("4 Memory"),
     }
 }
 
 /// Adds a line of the log, after its word.
-fn push_line(text: &mut Line, word: &str, line: u32)
-    requires short { length word.now ≤ WORDS }
-    requires room { length text.old + LOG_LINE ≤ LINE_BYTES }
-    ensures text { text.new ≡ text.old ++ at_line word.now line }
-    ensures size { length text.new ≤ length text.old + LOG_LINE }
+fn push_line<K: Sink>(out: &mut Out<K>, word: &str, line: u32)
+    ensures { Adds out.old out.new (at_line word.now line) }
 {
-    text.push_numbered(word, line as usize);
-    text.push(": ");
+    out.push_numbered(word, line as usize);
+    out.push(": ");
 }
 
 /// Adds a line of the log and what refuses it.
-fn push_cause(text: &mut Line, line: u32, cause: CollectCause)
-    requires { length text.old + CAUSE ≤ LINE_BYTES }
-    ensures text { text.new ≡ text.old ++ cause_text line cause }
-    ensures size { length text.new ≤ length text.old + CAUSE }
+fn push_cause<K: Sink>(out: &mut Out<K>, line: u32, cause: CollectCause)
+    ensures { Adds out.old out.new (cause_text line cause) }
 {
     match cause {
         CollectCause::Log(error) => {
-            push_line(text, "log line ", line);
-            push_log_code(text, error.code);
+            push_line(out, "log line ", line);
+            push_log_code(out, error.code);
         }
         CollectCause::Table(error) => {
-            push_line(text, "table line ", line);
-            push_table_error(text, error);
+            push_line(out, "table line ", line);
+            push_table_error(out, error);
         }
         CollectCause::UnknownSender => {
-            push_line(text, "table line ", line);
-            text.push("5 UnknownSender");
+            push_line(out, "table line ", line);
+            out.push("5 UnknownSender");
         }
     }
 }
 
-/// The line of a refusal.
-pub(crate) fn refusal_text(error: CollectError) -> Line
-    ensures { result ≡ (refused_log error).text }
+/// Adds the line of a refusal.
+fn push_refusal_line<K: Sink>(out: &mut Out<K>, error: CollectError)
+    ensures { Adds out.old out.new (refused_log error).text }
 {
-    let mut text = Line::new();
-    text.push("refused: ");
-    push_cause(&mut text, error.line, error.cause);
-    text.end();
-    text
+    out.push("refused: ");
+    push_cause(out, error.line, error.cause);
+    out.end();
+}
+
+/// Ends a run whose log is refused.
+pub(crate) fn refuse_log<K: Sink>(error: CollectError, out: K) -> (K, Result<Status, RunError>)
+    ensures prints { Prints K.taken K.broken out result.0 result.1 (λ w. w ≡ refused_log error) }
+    ensures status { IfOk result.1 (λ status. status ≡ Status.Refused) }
+    ensures read { result.1 ≢ Err RunError.Read }
+{
+    let mut text = Out::new(out);
+    push_refusal_line(&mut text, error);
+    text.finish_with(Status::Refused)
 }

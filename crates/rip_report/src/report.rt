@@ -6,13 +6,12 @@ ghost use Rattle.rip_report.specs.Given.{IsGiven};
 ghost use Rattle.rip_table.specs.State.{Fits, State, new_state};
 ghost use Rattle.rip_table.specs.declared.error.CollectError.{CollectError};
 ghost use Rattle.rip_report.specs.ReportText.{AreRead, IsAccepted, IsTable, LogMakes, ReportOf, ReportText};
-ghost use Rattle.rip_report.specs.Runs.{Reads, RefusesPlan, PullsLittleBehind, StopsAtRefusal};
+ghost use Rattle.rip_report.specs.Runs.{PullsLittleBehind, Reads, RefusesPlan, StopsAtRefusal};
 ghost use Rattle.rip_report.specs.Sent.{Prints, WentOut};
 ghost use Rattle.rip_report.specs.Written.{Written};
 
 use crate::log::read_log;
-use crate::output::{finish, write_all};
-use crate::refusal::{refusal_text, refuse_plan};
+use crate::refusal::{refuse_log, refuse_plan};
 use crate::status::{RunError, Status};
 use rip_log::laws::log_texts;
 use rip_log::{Sink, Source};
@@ -39,13 +38,13 @@ pub(crate) trait Report {
         alloc: Global,
         plan: &Plan,
         table: &T,
-        out: &mut K,
-    ) -> Result<Status, RunError>
+        out: K,
+    ) -> (K, Result<Status, RunError>)
         requires { Fits plan.now (T.state table.now) }
-        ensures prints { Prints K.taken K.broken out.old out.new result
+        ensures prints { Prints K.taken K.broken out result.0 result.1
             (is_text self.now plan.now (T.state table.now)) }
-        ensures meaning { IfOk result (means self.now plan.now (T.state table.now)) }
-        ensures read { result ≢ Err RunError.Read };
+        ensures meaning { IfOk result.1 (means self.now plan.now (T.state table.now)) }
+        ensures read { result.1 ≢ Err RunError.Read };
 }
 
 /// Writes the report on a log by its plan, or what refuses the log. The table is new.
@@ -55,22 +54,22 @@ fn report_log<C: Report, R: Source, K: Sink, T: MetricTable>(
     plan: &Plan,
     log: R,
     table: &mut T,
-    out: &mut K,
-) -> (R, Result<Status, RunError>)
+    out: K,
+) -> (R, K, Result<Status, RunError>)
     requires { T.state table.old ≡ new_state plan.now }
     ensures prints { (text : List ℕ) → IsGiven R.given R.at_end log result.0 text →
-        Prints K.taken K.broken out.old out.new result.1
+        Prints K.taken K.broken out result.1 result.2
         (ReportOf (C.is_text command.now plan.now) plan.now text) }
-    ensures reads { Reads R.given R.coming R.broken R.at_end log result.0 result.1 }
+    ensures reads { Reads R.given R.coming R.broken R.at_end log result.0 result.2 }
     ensures told { (text : List ℕ) → IsGiven R.given R.at_end log result.0 text →
-        (s : State) → IsTable plan.now text s → IfOk result.1
-        (WentOut (C.is_text command.now plan.now s) (K.taken out.old) (K.taken out.new)) }
+        (s : State) → IsTable plan.now text s → IfOk result.2
+        (WentOut (C.is_text command.now plan.now s) (K.taken out) (K.taken result.1)) }
     ensures meaning { (text : List ℕ) → IsGiven R.given R.at_end log result.0 text →
         (s : State) → IsTable plan.now text s →
-        IfOk result.1 (C.means command.now plan.now s) }
+        IfOk result.2 (C.means command.now plan.now s) }
     ensures stops { (text : List ℕ) → IsGiven R.given R.at_end log result.0 text →
         (s : State) (e : CollectError) → LogMakes plan.now text s (Some e) →
-        IfOk result.1 (λ status. PullsLittleBehind R.given log result.0 e.line) }
+        IfOk result.2 (λ status. PullsLittleBehind R.given log result.0 e.line) }
 {
     log_texts();
     one_join();
@@ -79,50 +78,50 @@ fn report_log<C: Report, R: Source, K: Sink, T: MetricTable>(
     plan.lawful();
     let (source, read) = read_log(alloc, plan, log, table);
     match read {
-        Ok(None) => (source, command.write(alloc, plan, table, out)),
-        Ok(Some(error)) => (
-            source,
-            finish(
-                write_all(out, refusal_text(error).as_bytes()),
-                Status::Refused,
-            ),
-        ),
-        Err(error) => (source, Err(error)),
+        Ok(None) => {
+            let (out, answer) = command.write(alloc, plan, table, out);
+            (source, out, answer)
+        }
+        Ok(Some(error)) => {
+            let (out, answer) = refuse_log(error, out);
+            (source, out, answer)
+        }
+        Err(error) => (source, out, Err(error)),
     }
 }
 
 /// Writes the report on a log by the plan in a TOML document, or why the plan or the log is
-/// refused. The source comes back. The log chooses the prefixes, so the hasher should be seeded at
+/// refused. The source and the sink come back. The log chooses the prefixes, so the hasher should be seeded at
 /// random.
 pub(crate) fn run_report<C: Report, R: Source, K: Sink, S: BuildHasher + Drop>(
     alloc: Global,
     command: &C,
     plan: &[u8],
     log: R,
-    out: &mut K,
+    out: K,
     hasher: S,
-) -> (R, Result<Status, RunError>)
+) -> (R, K, Result<Status, RunError>)
     // The whole text went out, or a beginning where the sink failed, or nothing.
     ensures prints { (text : List ℕ) → IsGiven R.given R.at_end log result.0 text →
-        Prints K.taken K.broken out.old out.new result.1
+        Prints K.taken K.broken out result.1 result.2
         (ReportText (C.is_text command.now) plan.now text) }
     // What is printed of a table comes only at the source's end, and Read only where it has failed.
-    ensures reads { Reads R.given R.coming R.broken R.at_end log result.0 result.1 }
+    ensures reads { Reads R.given R.coming R.broken R.at_end log result.0 result.2 }
     // Where plan and log are accepted, the text is that of the table that the log shows.
     ensures told { (text : List ℕ) → IsGiven R.given R.at_end log result.0 text →
         (n : Network) (s : State) → IsAccepted plan.now text n s →
-        IfOk result.1 (WentOut (C.is_text command.now n s) (K.taken out.old) (K.taken out.new)) }
+        IfOk result.2 (WentOut (C.is_text command.now n s) (K.taken out) (K.taken result.1)) }
     ensures meaning { (text : List ℕ) → IsGiven R.given R.at_end log result.0 text →
         (n : Network) (s : State) → IsAccepted plan.now text n s →
-        IfOk result.1 (C.means command.now n s) }
+        IfOk result.2 (C.means command.now n s) }
     // What is not accepted gets no other answer than Refused.
     ensures accepted { (text : List ℕ) → IsGiven R.given R.at_end log result.0 text →
         (n : Network) (s : State) → AreRead plan.now text n s →
-        IfOk result.1 (λ status. status ≢ Status.Refused → IsAccepted plan.now text n s) }
+        IfOk result.2 (λ status. status ≢ Status.Refused → IsAccepted plan.now text n s) }
     // If the plan is refused, the log is not touched; one that is no text never gives Memory.
-    ensures refuses { RefusesPlan plan.now log result.0 result.1 }
+    ensures refuses { RefusesPlan plan.now log result.0 result.2 }
     // Behind the line at which a log is refused no more is pulled than a reader holds.
-    ensures stops { StopsAtRefusal R.given R.at_end plan.now log result.0 result.1 }
+    ensures stops { StopsAtRefusal R.given R.at_end plan.now log result.0 result.2 }
 {
     one_plan();
     well_formed_texts();
@@ -130,10 +129,13 @@ pub(crate) fn run_report<C: Report, R: Source, K: Sink, S: BuildHasher + Drop>(
     one_join();
     let plan = match Plan::read(alloc, plan) {
         Ok(plan) => plan,
-        Err(error) => return (log, refuse_plan(error, out)),
+        Err(error) => {
+            let (out, answer) = refuse_plan(error, out);
+            return (log, out, answer);
+        }
     };
     match GridTable::with_hasher(alloc, &plan, hasher) {
         Ok(mut table) => report_log(alloc, command, &plan, log, &mut table, out),
-        Err(_) => (log, Err(RunError::Memory)),
+        Err(_) => (log, out, Err(RunError::Memory)),
     }
 }

@@ -141,8 +141,8 @@ pub(crate) fn add<R: Read + Drop, W: Write>(
     log: &mut CaptureLog,
     link: &str,
     file: R,
-    out: &mut IntoWrite<W>,
-) -> (FromRead<R>, Result<Status, RunError>) {
+    out: IntoWrite<W>,
+) -> (FromRead<R>, IntoWrite<W>, Result<Status, RunError>) {
     assert!(rt; is_name(link.as_bytes()));
     run_log(alloc, log, link, FromRead::new(file), out)
 }
@@ -163,8 +163,8 @@ pub(crate) fn expect_log_with(
     text: &str,
 ) {
     let mut log = CaptureLog::new(authentication);
-    let mut out = IntoWrite::new(Vec::new(alloc));
-    let (_, answer) = add(rt, alloc, &mut log, "a", file, &mut out);
+    let out = IntoWrite::new(Vec::new(alloc));
+    let (_, out, answer) = add(rt, alloc, &mut log, "a", file, out);
     assert_eq!(rt; answer, Ok(status));
     assert!(rt; out.into_writer().as_slice() == text.as_bytes());
     let told = if status == Status::Unclear {

@@ -195,8 +195,8 @@ fn run_log<L: Read + Drop, W: Write>(
     alloc: Global,
     command: LogCommand,
     log: FromRead<L>,
-    out: &mut IntoWrite<W>,
-) -> (FromRead<L>, Result<Status, RunError>) {
+    out: IntoWrite<W>,
+) -> (FromRead<L>, IntoWrite<W>, Result<Status, RunError>) {
     let plan = TRIANGLE.as_bytes();
     match command {
         LogCommand::Audit { all } => run_audit(alloc, plan, log, out, all, hasher()),
@@ -211,8 +211,8 @@ fn run_anyway<L: Read + Drop, W: Write>(
     alloc: Global,
     command: AnywayCommand,
     log: FromRead<L>,
-    out: &mut IntoWrite<W>,
-) -> (FromRead<L>, Result<Status, RunError>) {
+    out: IntoWrite<W>,
+) -> (FromRead<L>, IntoWrite<W>, Result<Status, RunError>) {
     let plan = TRIANGLE.as_bytes();
     match command {
         AnywayCommand::Heard => run_heard(alloc, plan, log, out, hasher(), hasher()),
@@ -226,8 +226,8 @@ pub(crate) fn run<L: Read + Drop, W: Write>(
     alloc: Global,
     command: Command,
     log: L,
-    out: &mut IntoWrite<W>,
-) -> (FromRead<L>, Result<Status, RunError>) {
+    out: IntoWrite<W>,
+) -> (FromRead<L>, IntoWrite<W>, Result<Status, RunError>) {
     let log = FromRead::new(log);
     match command {
         Command::Log(command) => run_log(alloc, command, log, out),

@@ -28,8 +28,8 @@ fn expect_row<'a>(
     row: &Row,
     log: Pieces<'a>,
 ) -> FromRead<Pieces<'a>> {
-    let mut out = IntoWrite::new(Vec::new(alloc));
-    let (source, outcome) = run(alloc, row.command, log, &mut out);
+    let out = IntoWrite::new(Vec::new(alloc));
+    let (source, out, outcome) = run(alloc, row.command, log, out);
     assert_eq!(rt; outcome, Ok(row.status));
     expect_text(rt, out, row.text);
     source
@@ -48,9 +48,9 @@ fn logs_in_pieces(rt: HostRuntime) {
 
 /// Expects that nothing is printed where the source fails in its pull of this number.
 fn expect_read_failure(rt: &impl Abort, alloc: Global, row: &Row, fails_at: usize) {
-    let mut out = IntoWrite::new(Vec::new(alloc));
+    let out = IntoWrite::new(Vec::new(alloc));
     let log = Pieces::failing(row.log.as_bytes(), fails_at);
-    let (source, outcome) = run(alloc, row.command, log, &mut out);
+    let (source, out, outcome) = run(alloc, row.command, log, out);
     assert!(rt; outcome == Err(RunError::Read) && source.failed());
     assert!(rt; out.into_writer().is_empty());
 }
@@ -96,8 +96,8 @@ fn a_source_that_would_fail_later(rt: HostRuntime) {
 
 /// Expects the beginning of a row's text where the sink fails after so many bytes of it.
 fn expect_write_failure(rt: &impl Abort, alloc: Global, row: &Row, most: usize) {
-    let mut out = IntoWrite::new(Slow::new(alloc, most));
-    let (source, outcome) = run(alloc, row.command, row.log.as_bytes(), &mut out);
+    let out = IntoWrite::new(Slow::new(alloc, most));
+    let (source, out, outcome) = run(alloc, row.command, row.log.as_bytes(), out);
     assert!(rt; outcome == Err(RunError::Write) && out.failed() && !source.failed());
     let taken = out.into_writer();
     assert!(rt; Some(taken.taken()) == row.text.as_bytes().get(..most));
@@ -126,8 +126,8 @@ const ENDLESS: [(u8, usize, &str); 2] = [
 fn sources_that_never_end(rt: HostRuntime) {
     let table = Command::Log(LogCommand::Table);
     for (byte, given, text) in ENDLESS {
-        let mut out = IntoWrite::new(Vec::new(rt.alloc()));
-        let (source, outcome) = run(rt.alloc(), table, Endless::new(byte, 1), &mut out);
+        let out = IntoWrite::new(Vec::new(rt.alloc()));
+        let (source, out, outcome) = run(rt.alloc(), table, Endless::new(byte, 1), out);
         assert_eq!(rt; outcome, Ok(Status::Refused));
         assert_eq!(rt; source.into_reader().calls(), given);
         expect_text(&rt, out, text);

@@ -112,8 +112,8 @@ fn run<W: Write>(
     alloc: Global,
     command: Command,
     given: &str,
-    out: &mut IntoWrite<W>,
-) -> Result<Status, RunError> {
+    out: IntoWrite<W>,
+) -> (IntoWrite<W>, Result<Status, RunError>) {
     match command {
         Command::Plan => run_plan(alloc, given.as_bytes(), out),
         Command::Expect => run_expect(alloc, given.as_bytes(), out),
@@ -124,8 +124,8 @@ fn run<W: Write>(
 
 /// Expects the beginning of a text where the sink fails after so many bytes, or all of it.
 fn expect_until(rt: &impl Abort, alloc: Global, row: &Row, most: usize) {
-    let mut out = IntoWrite::new(Slow::new(alloc, most));
-    let outcome = run(alloc, row.command, row.given, &mut out);
+    let out = IntoWrite::new(Slow::new(alloc, most));
+    let (out, outcome) = run(alloc, row.command, row.given, out);
     let is_whole = most == row.text.len();
     let due = if is_whole {
         Ok(row.status)
@@ -157,15 +157,16 @@ fn long_plan(alloc: Global) -> Result<String, Fail> {
 
 /// The routes of a plan.
 fn routes_of(rt: &impl Abort, alloc: Global, plan: &str) -> Vec<u8> {
-    let mut out = IntoWrite::new(Vec::new(alloc));
-    assert!(rt; run_expect(alloc, plan.as_bytes(), &mut out) == Ok(Status::Done));
+    let (out, outcome) = run_expect(alloc, plan.as_bytes(), IntoWrite::new(Vec::new(alloc)));
+    assert!(rt; outcome == Ok(Status::Done));
     out.into_writer()
 }
 
 /// Expects the beginning of the routes of a plan where the sink fails after so many bytes.
 fn expect_beginning(rt: &impl Abort, alloc: Global, plan: &str, routes: &[u8], most: usize) {
-    let mut out = IntoWrite::new(Slow::new(alloc, most));
-    assert!(rt; run_expect(alloc, plan.as_bytes(), &mut out) == Err(RunError::Write));
+    let out = IntoWrite::new(Slow::new(alloc, most));
+    let (out, outcome) = run_expect(alloc, plan.as_bytes(), out);
+    assert!(rt; outcome == Err(RunError::Write));
     let writer = out.into_writer();
     assert!(rt; Some(writer.taken()) == routes.get(..most));
 }

@@ -1,6 +1,6 @@
 //! The files of `log`: opened one after the other, and added to a log.
 
-ghost use Rattle.std.specs.Prelude.{◌≡◌, ◌≢◌, ◌+◌, ◌∷◌, ◌++◌, ◌<◌, [], ℕ, List, Err, IfNone, IfOk, IfSome, IsSome, Ok, length, map, vec_capacity, vec_len};
+ghost use Rattle.std.specs.Prelude.{◌≡◌, ◌≢◌, ◌+◌, ◌∷◌, ◌++◌, ◌<◌, [], ℕ, List, Err, true, IfNone, IfOk, IfSome, IsSome, Ok, length, map, vec_capacity, vec_len};
 ghost use Rattle.std.specs.List.{AllByRecursion};
 ghost use Rattle.rip_wire.specs.Name.{IsName};
 ghost use Rattle.rip_log.specs.LogText.{LogText};
@@ -25,25 +25,27 @@ use std::rt::Files;
 /// A source whose reader is closed.
 type Closed = FromRead<&'static [u8]>;
 
-/// Adds a capture file of a link to a log, as a reader gives it. Its source comes back, closed.
+/// Adds a capture file of a link to a log, as a reader gives it. Its source comes back, closed, and
+/// the sink.
 fn log_reader<L: Read + Drop, K: Sink>(
     alloc: Global,
     log: &mut CaptureLog,
     link: &str,
     reader: L,
-    out: &mut K,
-) -> (Closed, Result<Status, RunError>)
+    out: K,
+) -> (Closed, K, Result<Status, RunError>)
     requires { IsName link.now }
     ensures goes_on { (bytes : List ℕ) → HasGiven result.0 bytes →
         (files : List File) (text : List ℕ) → IsLogOf log.old files text →
-        result.1 ≢ Err RunError.Write → (part : List ℕ)
-        × Took (K.taken out.old) (K.taken out.new) part
+        result.2 ≢ Err RunError.Write → (part : List ℕ)
+        × Took (K.taken out) (K.taken result.1) part
         × GoesOn log.new (files ++ record { link = link.now; bytes = bytes } ∷ [])
-        (text ++ part) result.1 }
+        (text ++ part) result.2 }
+    ensures write { result.2 ≡ Err RunError.Write → K.broken result.1 ≡ true }
     ensures authentication { authentication_of log.new ≡ authentication_of log.old }
 {
-    let (source, answer) = run_log(alloc, log, link, FromRead::new(reader), out);
-    (source.close(), answer)
+    let (source, out, answer) = run_log(alloc, log, link, FromRead::new(reader), out);
+    (source.close(), out, answer)
 }
 
 /// Adds the capture file of a word to a log. Its source comes back, closed, if it was opened.
@@ -51,32 +53,36 @@ fn log_file<R: Files + AllocGlobal + Input + Eprint, K: Sink>(
     rt: &R,
     log: &mut CaptureLog,
     word: CaptureWord<'_>,
-    out: &mut K,
-) -> (Option<Closed>, Result<Status, RunError>)
+    out: K,
+) -> (Option<Closed>, K, Result<Status, RunError>)
 where
     R::Reader: IsTerminal,
     requires { IsName word.link.now }
     ensures goes_on { (bytes : List ℕ) → HasGivenIf result.0 bytes →
         (files : List File) (text : List ℕ) → IsLogOf log.old files text →
-        result.1 ≢ Err RunError.Write → (part : List ℕ)
-        × Took (K.taken out.old) (K.taken out.new) part
+        result.2 ≢ Err RunError.Write → (part : List ℕ)
+        × Took (K.taken out) (K.taken result.1) part
         × GoesOn log.new (files ++ record { link = word.entry.link.now; bytes = bytes } ∷ [])
-        (text ++ part) result.1 }
-    ensures opened { IfOk result.1 (λ _. IsSome result.0) }
+        (text ++ part) result.2 }
+    ensures opened { IfOk result.2 (λ _. IsSome result.0) }
+    ensures write { result.2 ≡ Err RunError.Write → K.broken result.1 ≡ true }
     ensures authentication { authentication_of log.new ≡ authentication_of log.old }
 {
     let alloc = rt.alloc();
     if word.is_input() {
         let input = told_input(rt, "reading the capture from standard input");
-        let (source, answer) = log_reader(alloc, log, word.link, input, out);
-        return (Some(source), answer);
+        let (source, out, answer) = log_reader(alloc, log, word.link, input, out);
+        return (Some(source), out, answer);
     }
     match fs::open(rt, word.path) {
         Ok(file) => {
-            let (source, answer) = log_reader(alloc, log, word.link, file, out);
-            (Some(source), answer)
+            let (source, out, answer) = log_reader(alloc, log, word.link, file, out);
+            (Some(source), out, answer)
         }
-        Err(error) => (None, log_failure(read_failure(&error), out)),
+        Err(error) => {
+            let (out, answer) = log_failure(read_failure(&error), out);
+            (None, out, answer)
+        }
     }
 }
 
@@ -98,20 +104,21 @@ fn log_word<R: Files + AllocGlobal + Input + Eprint, K: Sink>(
     log: &mut CaptureLog,
     word: &str,
     sources: &mut Vec<Closed>,
-    out: &mut K,
-) -> Result<Status, RunError>
+    out: K,
+) -> (K, Result<Status, RunError>)
 where
     R::Reader: IsTerminal,
     requires { (file : File) × NamesFile word.now file }
     ensures goes_on { (file : File) → NamesFile word.now file →
         HasGivenAt sources.new.items (length sources.old.items) file.bytes →
         (files : List File) (text : List ℕ) → IsLogOf log.old files text →
-        result ≢ Err RunError.Write → (part : List ℕ)
-        × Took (K.taken out.old) (K.taken out.new) part
-        × GoesOn log.new (files ++ file ∷ []) (text ++ part) result }
+        result.1 ≢ Err RunError.Write → (part : List ℕ)
+        × Took (K.taken out) (K.taken result.0) part
+        × GoesOn log.new (files ++ file ∷ []) (text ++ part) result.1 }
     ensures kept { (more : List ClosedSource) × (sources.new.items ≡ sources.old.items ++ more) }
-    ensures read { IfOk result
+    ensures read { IfOk result.1
         (λ _. length sources.new.items ≡ length sources.old.items + 1) }
+    ensures write { result.1 ≡ Err RunError.Write → K.broken result.0 ≡ true }
     ensures authentication { authentication_of log.new ≡ authentication_of log.old }
 {
     let Some(word) = capture_word(word) else {
@@ -120,9 +127,9 @@ where
     if sources.reserve(1).is_err() {
         return log_failure(RunError::Memory, out);
     }
-    let (source, answer) = log_file(rt, log, word, out);
+    let (source, out, answer) = log_file(rt, log, word, out);
     keep(sources, source);
-    answer
+    (out, answer)
 }
 
 /// Whether the answer of a file ends a log.
@@ -138,34 +145,38 @@ pub(crate) fn log_files<R: Files + AllocGlobal + Input + Eprint, K: Sink>(
     rt: &R,
     authentication: Authentication,
     words: &[&str],
-    out: &mut K,
-) -> (Vec<Closed>, Result<Status, RunError>)
+    out: K,
+) -> (Vec<Closed>, K, Result<Status, RunError>)
 where
     R::Reader: IsTerminal,
     requires fine { AreFineWords (map (λ w. w.now) words.now) }
     // What went out is the log of these files, whole or up to the one that ends it.
     ensures log { (files : List File) →
         AreFilesOf (map (λ w. w.now) words.now) result.0.items files →
-        result.1 ≢ Err RunError.Write → (text : List ℕ)
-        × Took (K.taken out.old) (K.taken out.new) text
-        × LogOf authentication files text result.1 }
+        result.2 ≢ Err RunError.Write → (text : List ℕ)
+        × Took (K.taken out) (K.taken result.1) text
+        × LogOf authentication files text result.2 }
     // If no line of it is bad, each file is a capture, and it has just their datagrams.
     ensures says { (files : List File) →
         AreFilesOf (map (λ w. w.now) words.now) result.0.items files →
-        AllByRecursion IsFile files → result.1 ≢ Err RunError.Write → (text : List ℕ)
-        × Took (K.taken out.old) (K.taken out.new) text
-        × ((records : List Numbered) → LogText text records → (result.1 ≡ Ok Status.Done)
+        AllByRecursion IsFile files → result.2 ≢ Err RunError.Write → (text : List ℕ)
+        × Took (K.taken out) (K.taken result.1) text
+        × ((records : List Numbered) → LogText text records → (result.2 ≡ Ok Status.Done)
         × HaveDatagrams authentication files (map (λ r. r.capture) records)) }
+    // Write only where the sink has failed.
+    ensures write { result.2 ≡ Err RunError.Write → K.broken result.1 ≡ true }
 {
     captured_logs();
     stopped_logs();
     let mut log = CaptureLog::new(authentication);
     let mut sources = Vec::new(rt.alloc());
+    let mut out = out;
     for i in 0..words.len() {
-        let answer = log_word(rt, &mut log, words[i], &mut sources, out);
+        let (back, answer) = log_word(rt, &mut log, words[i], &mut sources, out);
+        out = back;
         if ends_log(&answer) {
-            return (sources, answer);
+            return (sources, out, answer);
         }
     }
-    (sources, Ok(log.status()))
+    (sources, out, Ok(log.status()))
 }

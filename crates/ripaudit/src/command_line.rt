@@ -204,8 +204,8 @@ fn plan_file<R: Files + AllocGlobal + Print>(
     path: &str,
 ) -> Result<Status, RunError> {
     let plan = read_plan_file(rt, path)?;
-    let mut out = IntoWrite::new(io::writer(rt));
-    run_on_plan(rt.alloc(), command, plan.as_slice(), &mut out)
+    let out = IntoWrite::new(io::writer(rt));
+    run_on_plan(rt.alloc(), command, plan.as_slice(), out).1
 }
 
 /// Runs a command on a log.
@@ -218,21 +218,13 @@ fn report_from<R: AllocGlobal + RandomSource + Print, L: Read + Drop>(
     let (Ok(prefixes), Ok(strangers)) = (RandomState::new(rt), RandomState::new(rt)) else {
         return Err(RunError::Read);
     };
-    let mut out = IntoWrite::new(io::writer(rt));
+    let out = IntoWrite::new(io::writer(rt));
     let log = FromRead::new(log);
-    let (_, outcome) = match command {
-        ReadCommand::Judged(command) => {
-            run_on_log(rt.alloc(), command, plan, log, &mut out, prefixes)
+    let (_, _, outcome) = match command {
+        ReadCommand::Judged(command) => run_on_log(rt.alloc(), command, plan, log, out, prefixes),
+        ReadCommand::Anyway(command) => {
+            run_anyway(rt.alloc(), command, plan, log, out, prefixes, strangers)
         }
-        ReadCommand::Anyway(command) => run_anyway(
-            rt.alloc(),
-            command,
-            plan,
-            log,
-            &mut out,
-            prefixes,
-            strangers,
-        ),
     };
     outcome
 }
@@ -296,8 +288,8 @@ where
 {
     match first_bad_word(words) {
         None => {
-            let mut out = IntoWrite::new(io::writer(rt));
-            let (_, outcome) = log_files(rt, authentication, words, &mut out);
+            let out = IntoWrite::new(io::writer(rt));
+            let (_, _, outcome) = log_files(rt, authentication, words, out);
             outcome
         }
         Some(at) => refuse_word(rt, words[at], at + 1),
@@ -315,7 +307,7 @@ where
 {
     if word == "decode" {
         let hex = words.get_str("HEX")?;
-        return Some(run_decode(hex, &mut IntoWrite::new(io::writer(rt))));
+        return Some(run_decode(hex, IntoWrite::new(io::writer(rt))).1);
     }
     if word == "log" {
         let kept = authentication(words.get_flag("without-authentication"));

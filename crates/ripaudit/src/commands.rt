@@ -164,16 +164,16 @@ pub(crate) fn read_plan<R: Source>(alloc: Global, file: &mut R) -> Result<Vec<u8
     Ok(bytes)
 }
 
-/// Runs a command on the bytes of a plan.
+/// Runs a command on the bytes of a plan. The sink comes back.
 pub(crate) fn run_on_plan<K: Sink>(
     alloc: Global,
     command: PlanCommand,
     plan: &[u8],
-    out: &mut K,
-) -> Result<Status, RunError>
-    ensures prints { Prints K.taken K.broken out.old out.new result
+    out: K,
+) -> (K, Result<Status, RunError>)
+    ensures prints { Prints K.taken K.broken out result.0 result.1
         (PlanCommandText command plan.now) }
-    ensures read { result ≢ Err RunError.Read }
+    ensures read { result.1 ≢ Err RunError.Read }
 {
     match command {
         PlanCommand::Plan => run_plan(alloc, plan, out),
@@ -182,37 +182,38 @@ pub(crate) fn run_on_plan<K: Sink>(
     }
 }
 
-/// Runs a command on the bytes of a plan and on a log. The source comes back.
+/// Runs a command on the bytes of a plan and on a log. The source and the sink come
+/// back.
 pub(crate) fn run_on_log<R: Source, K: Sink, S: BuildHasher + Drop>(
     alloc: Global,
     command: LogCommand,
     plan: &[u8],
     log: R,
-    out: &mut K,
+    out: K,
     hasher: S,
-) -> (R, Result<Status, RunError>)
+) -> (R, K, Result<Status, RunError>)
     ensures prints { (text : List ℕ) → IsGiven R.given R.at_end log result.0 text →
-        Prints K.taken K.broken out.old out.new result.1 (LogCommandText command plan.now text) }
-    ensures reads { Reads R.given R.coming R.broken R.at_end log result.0 result.1 }
+        Prints K.taken K.broken out result.1 result.2 (LogCommandText command plan.now text) }
+    ensures reads { Reads R.given R.coming R.broken R.at_end log result.0 result.2 }
     // If the plan is refused, the log is not touched; one that is no text never gives Memory.
-    ensures refuses { RefusesPlan plan.now log result.0 result.1 }
+    ensures refuses { RefusesPlan plan.now log result.0 result.2 }
     // Behind the line at which a log is refused no more is pulled than a reader holds.
-    ensures stops { StopsAtRefusal R.given R.at_end plan.now log result.0 result.1 }
+    ensures stops { StopsAtRefusal R.given R.at_end plan.now log result.0 result.2 }
     // `audit` answers Settled exactly where the log shows right tables, and then packets arrive.
     ensures headline { (all : Bool) → command ≡ LogCommand.Audit all →
         (text : List ℕ) → IsGiven R.given R.at_end log result.0 text →
         (n : Network) (s : State) → AreRead plan.now text n s →
-        IfOk result.1 (AnswersRightly n s) }
+        IfOk result.2 (AnswersRightly n s) }
     // The same of all the text that was to come, where its bytes are modelled.
     ensures known { (all : Bool) → command ≡ LogCommand.Audit all →
         (text : List ℕ) → R.coming log ≡ Some text →
         (n : Network) (s : State) → AreRead plan.now text n s →
-        IfOk result.1 (AnswersRightly n s) }
+        IfOk result.2 (AnswersRightly n s) }
     // Of a plan that says nothing beside RFC 2453 the paths of `audit` go over any neighbours.
     ensures plain { (all : Bool) → command ≡ LogCommand.Audit all →
         (text : List ℕ) → IsGiven R.given R.at_end log result.0 text →
         (n : Network) (s : State) → IsAccepted plan.now text n s → IsPlain n →
-        IfOk result.1 (λ status. (status ≡ Status.Settled) ↔ ShowsPlainRightTables n s) }
+        IfOk result.2 (λ status. (status ≡ Status.Settled) ↔ ShowsPlainRightTables n s) }
     // No two sets of tables are shown.
     ensures one_set { (text : List ℕ) → IsGiven R.given R.at_end log result.0 text →
         (n : Network) (s : State) → IsAccepted plan.now text n s →
@@ -221,7 +222,7 @@ pub(crate) fn run_on_log<R: Source, K: Sink, S: BuildHasher + Drop>(
     ensures judged { (all : Bool) → command ≡ LogCommand.Audit all →
         (text : List ℕ) → IsGiven R.given R.at_end log result.0 text →
         (n : Network) (s : State) → IsAccepted plan.now text n s →
-        IfOk result.1 (IsJudged n s) }
+        IfOk result.2 (IsJudged n s) }
 {
     one_set_of_tables();
     match command {
@@ -232,23 +233,23 @@ pub(crate) fn run_on_log<R: Source, K: Sink, S: BuildHasher + Drop>(
     }
 }
 
-/// Runs a command on the bytes of a plan and on a log, which is read to its end. The source comes
-/// back. (Why so many arguments: DECISIONS.md.)
+/// Runs a command on the bytes of a plan and on a log, which is read to its end. The source and
+/// the sink come back. (Why so many arguments: DECISIONS.md.)
 pub(crate) fn run_anyway<R: Source, K: Sink, S: BuildHasher + Drop>(
     alloc: Global,
     command: AnywayCommand,
     plan: &[u8],
     log: R,
-    out: &mut K,
+    out: K,
     prefixes: S,
     strangers: S,
-) -> (R, Result<Status, RunError>)
+) -> (R, K, Result<Status, RunError>)
     ensures prints { (text : List ℕ) → IsGiven R.given R.at_end log result.0 text →
-        Prints K.taken K.broken out.old out.new result.1 (AnywayCommandText command plan.now text) }
+        Prints K.taken K.broken out result.1 result.2 (AnywayCommandText command plan.now text) }
     // Read only where the source has failed, or a line has more than 2^64 - 1 bytes.
-    ensures reads { ReadsOn R.given R.coming R.broken R.at_end log result.0 result.1 }
+    ensures reads { ReadsOn R.given R.coming R.broken R.at_end log result.0 result.2 }
     // If the plan is refused, the log is not touched; one that is no text never gives Memory.
-    ensures refuses { RefusesPlan plan.now log result.0 result.1 }
+    ensures refuses { RefusesPlan plan.now log result.0 result.2 }
 {
     match command {
         AnywayCommand::Heard => run_heard(alloc, plan, log, out, prefixes, strangers),

@@ -1,19 +1,17 @@
 //! From the packets of a capture file to the lines of a log.
 
-ghost use Rattle.std.specs.Prelude.{◌≡◌, ◌≤◌, [], None, length};
+ghost use Rattle.std.specs.Prelude.{◌≡◌, ◌≤◌, [], None};
 ghost use Rattle.rip_capture.specs.NextCall.{Stands, frame_of, refusal_of, source_of};
 ghost use Rattle.rip_log.specs.declared.limits.TheConstants.{MOST_LINES};
 ghost use Rattle.rip_report.specs.CapturePackets.{LogsPacket, LogsPackets, ended_at, ended_by};
 ghost use Rattle.rip_report.specs.CaptureText.{HasRoom};
-ghost use Rattle.rip_report.specs.declared.limits.TheConstants.{NAME};
 
 use crate::captures::authentication::Authentication;
 use crate::captures::counts::PacketCounts;
 use crate::captures::ending::{Ending, RefusalCode};
-use crate::captures::lines::{add_line, has_line};
+use crate::captures::lines::{has_line, push_line};
 use crate::captures::tally::Tally;
-use crate::limits::NAME;
-use crate::listing::Listing;
+use crate::output::Out;
 use rip_capture::laws::{long_captures, read_captures};
 use rip_capture::{CaptureCode, CaptureError, CaptureReader, Packet, read_frame};
 use rip_log::{MOST_LINES, Sink, Source};
@@ -25,14 +23,12 @@ fn log_packet<K: Sink>(
     link: &str,
     authentication: Authentication,
     tally: &mut Tally,
-    listing: &mut Listing,
-    out: &mut K,
+    out: &mut Out<K>,
 ) -> bool
-    requires link { length link.now ≤ NAME }
     requires room { HasRoom tally.old.counts }
     requires lines { tally.old.lines ≤ MOST_LINES }
-    ensures { LogsPacket K.taken K.broken authentication link.now (frame_of packet.now)
-        tally.old tally.new listing.old listing.new out.old out.new result }
+    ensures { LogsPacket authentication link.now (frame_of packet.now) tally.old tally.new
+        out.old out.new result }
 {
     let carried = read_frame(packet.link_type, packet.bytes);
     if has_line(&carried) {
@@ -41,7 +37,7 @@ fn log_packet<K: Sink>(
         }
         tally.lines += 1;
     }
-    let omitted = add_line(listing, link, authentication, packet.bytes, &carried, out);
+    let omitted = push_line(out, link, authentication, packet.bytes, &carried);
     tally.counts.add(&carried, omitted);
     true
 }
@@ -78,15 +74,13 @@ pub(crate) fn log_packets<R: Source, K: Sink>(
     link: &str,
     authentication: Authentication,
     lines: u32,
-    listing: &mut Listing,
-    out: &mut K,
+    out: &mut Out<K>,
 ) -> Ending
     requires front { Stands R.given (R.given (source_of reader.old)) reader.old [] [] }
     requires running { refusal_of reader.old ≡ None }
-    requires link { length link.now ≤ NAME }
     requires lines { lines ≤ MOST_LINES }
-    ensures { LogsPackets R.given R.coming R.broken R.at_end K.taken K.broken authentication
-        link.now lines reader.old reader.new listing.old listing.new out.old out.new result }
+    ensures { LogsPackets R.given R.coming R.broken R.at_end authentication link.now lines
+        reader.old reader.new out.old out.new result }
 {
     long_captures();
     read_captures();
@@ -98,11 +92,11 @@ pub(crate) fn log_packets<R: Source, K: Sink>(
         match reader.next() {
             Ok(Some(packet)) => {
                 let at = packet.at;
-                if !log_packet(&packet, link, authentication, &mut tally, listing, out) {
+                if !log_packet(&packet, link, authentication, &mut tally, out) {
                     let code = RefusalCode::TooManyLines;
                     return Ending::Refused { code, at };
                 }
-                if listing.has_failed() {
+                if out.has_failed() {
                     return Ending::Unwritten;
                 }
             }

@@ -1,200 +1,154 @@
 //! What a place that does not hold comes from.
 
-ghost use Rattle.std.specs.Prelude.{◌≡◌, ◌≢◌, ◌<◌, List, Some, length, slice_get, ℕ};
-ghost use Rattle.rip_plan.specs.Relations.{IsDirect};
+ghost use Rattle.std.specs.Prelude.{◌<◌, Some, length, ℕ};
 ghost use Rattle.rip_table.specs.State.{Fits};
 ghost use Rattle.rip_check.specs.Expected.{AreExpected};
 ghost use Rattle.rip_check.specs.Marks.{AreUnsettled};
 ghost use Rattle.rip_check.specs.Paths.{IsLeast};
 ghost use Rattle.rip_check.specs.Told.{told};
+ghost use Rattle.rip_check.specs.Cases.{network_of, state_of};
 ghost use Rattle.rip_report.specs.AuditText.{AreKnown, FailingText};
 ghost use Rattle.rip_report.specs.ExplainText.{DirectLine, OfferLine, OfferLines, OffersOver, PlaceLines, ShownLine, ShownLines};
-ghost use Rattle.rip_report.specs.Listings.{Adds};
+ghost use Rattle.rip_report.specs.Outs.{AddsOne};
 
-use crate::explain::lines::{direct_text, least_text, offer_text, read_route_text, shown_text};
-use crate::lines::verdicts::unsettled_text;
-use crate::listing::Listing;
+use crate::explain::lines::{
+    push_direct_line, push_least_line, push_offer_line, push_read_route_line, push_shown_line,
+};
+use crate::lines::verdicts::push_unsettled_line;
 use crate::loops::{InterfaceText, PairText, add_listed};
-use rip_check::{Expected, Place2, Unsettled, offer};
+use crate::output::Out;
+use rip_check::{Case, Expected, Place2, Unsettled};
 use rip_log::Sink;
 use rip_plan::{Interface, Plan};
 use rip_table::MetricTable;
 use rip_wire::Metric;
 
-/// What an interface shows of a prefix.
-#[derive(Clone, Copy)]
-pub(crate) struct Shown {
-    prefix: usize,
+/// What the interfaces show of the prefix of a case.
+#[derive(Drop)]
+struct Shown<'a, T: MetricTable> {
+    case: &'a Case<'a, T>,
 }
 
-impl InterfaceText for Shown {
-    ghost fits = { λ texts _ s. texts.prefix < length s.prefixes };
+impl<T: MetricTable> InterfaceText for Shown<'_, T> {
+    ghost is_for = { λ texts i. i < length (network_of texts.case.now).interfaces };
 
-    ghost is_for = { λ _ n i. i < length n.interfaces };
+    ghost is_text = { λ texts i.
+        ShownLine (network_of texts.case.now) (state_of texts.case.now) texts.case.now.prefix i };
 
-    ghost is_text = { λ texts n s i. ShownLine n s texts.prefix i };
-
-    fn add<T: MetricTable, K: Sink>(
-        &self,
-        listing: &mut Listing,
-        plan: &Plan,
-        table: &T,
-        number: usize,
-        out: &mut K,
-    ) {
+    fn add<K: Sink>(&self, out: &mut Out<K>, number: usize) {
+        let plan = self.case.plan;
         plan.lawful();
         let link = plan.interface(number).link;
-        let shown = table.metric(number, self.prefix);
-        listing.add(&shown_text(plan, link, shown), out);
+        let shown = self.case.table.metric(number, self.case.prefix);
+        push_shown_line(out, plan, link, shown);
     }
 }
 
-/// Adds what each interface of a router shows of a prefix.
+/// Adds what each interface of a router shows of the prefix.
 pub(crate) fn add_shown<T: MetricTable, K: Sink>(
-    listing: &mut Listing,
-    plan: &Plan,
-    table: &T,
+    out: &mut Out<K>,
+    case: &Case<'_, T>,
     router: usize,
-    prefix: usize,
-    out: &mut K,
 )
-    requires fits { Fits plan.now (T.state table.now) }
-    requires router { router < length plan.now.routers }
-    requires prefix { prefix < length (T.state table.now).prefixes }
-    ensures { (text : List ℕ) × ShownLines plan.now (T.state table.now) router prefix text
-        × Adds K.taken K.broken out.old out.new listing.old listing.new text }
+    requires { router < length (network_of case.now).routers }
+    ensures { AddsOne out.old out.new
+        (ShownLines (network_of case.now) (state_of case.now) router case.now.prefix) }
 {
-    let numbers = plan.of_router(router);
-    add_listed(&Shown { prefix }, listing, plan, table, numbers, out);
+    let numbers = case.plan.of_router(router);
+    add_listed(out, &Shown { case }, numbers);
 }
 
 /// What is offered to a router over the link of its interface, by the router of another interface
 /// there.
-#[derive(Clone, Copy)]
-struct OfferTo {
+#[derive(Drop)]
+struct OfferTo<'a, T: MetricTable> {
+    case: &'a Case<'a, T>,
     own: Interface,
-    prefix: usize,
 }
 
-impl InterfaceText for OfferTo {
+impl<T: MetricTable> InterfaceText for OfferTo<'_, T> {
     ghost use Rattle.rip_plan.specs.Relations.{HasCost, IsInterface};
 
-    ghost fits = { λ texts n s. (texts.prefix < length s.prefixes)
-        × HasCost n texts.own.router texts.own.link texts.own.cost };
+    ghost is_for = { λ texts j.
+        HasCost (network_of texts.case.now) texts.own.router texts.own.link texts.own.cost
+        × ((r c : ℕ) × IsInterface (network_of texts.case.now) j r texts.own.link c) };
 
-    ghost is_for = { λ texts n j. (r c : ℕ) × IsInterface n j r texts.own.link c };
+    ghost is_text = { λ texts j. OfferLine (network_of texts.case.now) (state_of texts.case.now)
+        texts.own texts.case.now.prefix j };
 
-    ghost is_text = { λ texts n s j. OfferLine n s texts.own texts.prefix j };
-
-    fn add<T: MetricTable, K: Sink>(
-        &self,
-        listing: &mut Listing,
-        plan: &Plan,
-        table: &T,
-        number: usize,
-        out: &mut K,
-    ) {
+    fn add<K: Sink>(&self, out: &mut Out<K>, number: usize) {
+        let plan = self.case.plan;
         plan.lawful();
         let router = plan.interface(number).router;
         if router != self.own.router {
-            let shown = table.metric(number, self.prefix);
-            let value = offer(plan, table, self.own, number, self.prefix);
-            listing.add(&offer_text(plan, &self.own, router, shown, value), out);
+            let shown = self.case.table.metric(number, self.case.prefix);
+            let value = self.case.offer(self.own, number);
+            push_offer_line(out, plan, &self.own, router, shown, value);
         }
     }
 }
 
 /// What is offered over the link of a router's interface.
-#[derive(Clone, Copy)]
-struct OffersOverLink {
-    prefix: usize,
+#[derive(Drop)]
+struct OffersOverLink<'a, T: MetricTable> {
+    case: &'a Case<'a, T>,
 }
 
-impl InterfaceText for OffersOverLink {
-    ghost fits = { λ texts _ s. texts.prefix < length s.prefixes };
+impl<T: MetricTable> InterfaceText for OffersOverLink<'_, T> {
+    ghost is_for = { λ texts i. i < length (network_of texts.case.now).interfaces };
 
-    ghost is_for = { λ _ n i. i < length n.interfaces };
+    ghost is_text = { λ texts i.
+        OffersOver (network_of texts.case.now) (state_of texts.case.now) texts.case.now.prefix i };
 
-    ghost is_text = { λ texts n s i. OffersOver n s texts.prefix i };
-
-    fn add<T: MetricTable, K: Sink>(
-        &self,
-        listing: &mut Listing,
-        plan: &Plan,
-        table: &T,
-        number: usize,
-        out: &mut K,
-    ) {
-        plan.lawful();
-        let own = plan.interface(number);
-        let link = own.link;
-        let numbers = plan.on_link(link);
-        let texts = OfferTo {
-            own,
-            prefix: self.prefix,
-        };
-        add_listed(&texts, listing, plan, table, numbers, out);
+    fn add<K: Sink>(&self, out: &mut Out<K>, number: usize) {
+        let case = self.case;
+        case.plan.lawful();
+        let own = case.plan.interface(number);
+        let numbers = case.plan.on_link(own.link);
+        add_listed(out, &OfferTo { case, own }, numbers);
     }
 }
 
 /// Adds all that is offered to a router.
-fn add_offers<T: MetricTable, K: Sink>(
-    listing: &mut Listing,
-    plan: &Plan,
-    table: &T,
-    router: usize,
-    prefix: usize,
-    out: &mut K,
-)
-    requires fits { Fits plan.now (T.state table.now) }
-    requires router { router < length plan.now.routers }
-    requires prefix { prefix < length (T.state table.now).prefixes }
-    ensures { (text : List ℕ) × OfferLines plan.now (T.state table.now) router prefix text
-        × Adds K.taken K.broken out.old out.new listing.old listing.new text }
+fn add_offers<T: MetricTable, K: Sink>(out: &mut Out<K>, case: &Case<'_, T>, router: usize)
+    requires { router < length (network_of case.now).routers }
+    ensures { AddsOne out.old out.new
+        (OfferLines (network_of case.now) (state_of case.now) router case.now.prefix) }
 {
-    let numbers = plan.of_router(router);
-    let offers = OffersOverLink { prefix };
-    add_listed(&offers, listing, plan, table, numbers, out);
+    let numbers = case.plan.of_router(router);
+    add_listed(out, &OffersOverLink { case }, numbers);
 }
 
 /// Adds the cost at which a router has a prefix itself, if it does.
-fn add_direct<K: Sink>(
-    listing: &mut Listing,
-    plan: &Plan,
-    router: usize,
-    prefix: usize,
-    out: &mut K,
-)
-    ensures { (text : List ℕ) × DirectLine plan.now router prefix text
-        × Adds K.taken K.broken out.old out.new listing.old listing.new text }
+fn add_direct<K: Sink>(out: &mut Out<K>, plan: &Plan, router: usize, prefix: usize)
+    ensures { AddsOne out.old out.new (DirectLine plan.now router prefix) }
 {
     if let Some(cost) = plan.direct_cost(router, prefix) {
         let is_kept = plan.keeps(router, prefix);
-        listing.add(&direct_text(cost, is_kept), out);
+        push_direct_line(out, cost, is_kept);
     }
 }
 
 /// Adds the line of a place that does not hold, and what the place comes from.
 pub(crate) fn add_place<T: MetricTable, K: Sink>(
-    listing: &mut Listing,
+    out: &mut Out<K>,
     plan: &Plan,
     table: &T,
     place: &Place2,
     least: Metric,
-    out: &mut K,
 )
     requires fits { Fits plan.now (T.state table.now) }
     requires place { AreKnown plan.now (T.state table.now) place.now }
     requires least { IsLeast plan.now place.now.prefix place.now.router least }
-    ensures { (text : List ℕ) × PlaceLines plan.now (T.state table.now) place.now text
-        × Adds K.taken K.broken out.old out.new listing.old listing.new text }
+    ensures { AddsOne out.old out.new (PlaceLines plan.now (T.state table.now) place.now) }
 {
-    listing.add(&unsettled_text(plan, table, place), out);
-    add_shown(listing, plan, table, place.router, place.prefix, out);
-    listing.add(&read_route_text(plan, place), out);
-    add_direct(listing, plan, place.router, place.prefix, out);
-    add_offers(listing, plan, table, place.router, place.prefix, out);
-    listing.add(&least_text(plan, place.prefix, least), out);
+    let case = Case::new(plan, table, place.prefix);
+    push_unsettled_line(out, plan, table, place);
+    add_shown(out, &case, place.router);
+    push_read_route_line(out, plan, place);
+    add_direct(out, plan, place.router, place.prefix);
+    add_offers(out, &case, place.router);
+    push_least_line(out, plan, place.prefix, least);
 }
 
 /// The places that do not hold, and what they come from.
@@ -212,19 +166,11 @@ impl PairText for FailingPlaces {
 
     ghost is_text = { λ _ n s. FailingText n s (PlaceLines n s) };
 
-    fn add<T: MetricTable, K: Sink>(
-        &self,
-        listing: &mut Listing,
-        plan: &Plan,
-        table: &T,
-        router: usize,
-        prefix: usize,
-        out: &mut K,
-    ) {
-        plan.lawful();
-        if let Some(place) = self.places.at(plan, table, router, prefix) {
-            let least = self.expected.least(plan, router, prefix);
-            add_place(listing, plan, table, &place, least, out);
+    fn add<T: MetricTable, K: Sink>(&self, out: &mut Out<K>, case: &Case<'_, T>, router: usize) {
+        case.plan.lawful();
+        if let Some(place) = self.places.at(case, router) {
+            let least = self.expected.least(case.plan, router, case.prefix);
+            add_place(out, case.plan, case.table, &place, least);
         }
     }
 }

@@ -1,44 +1,39 @@
 //! What a log shows instead of tables.
 
-ghost use Rattle.std.specs.Prelude.{◌≡◌, ◌<◌, ◌↔◌, Decides, IsTrue, List, Some, length, slice_get, ℕ};
+ghost use Rattle.std.specs.Prelude.{◌<◌, Decides, IsTrue, length, ℕ};
 ghost use Rattle.rip_plan.specs.Relations.{IsInterface};
 ghost use Rattle.rip_table.specs.State.{Fits};
 ghost use Rattle.rip_report.specs.AuditText.{IsTroubleOf};
 ghost use Rattle.rip_report.specs.ExplainText.{AllTroubles, HeardLine, HeardLines, TroubleLines, UnclearText, UnderTrouble, UnheardLines, UnreadLines};
-ghost use Rattle.rip_report.specs.Listings.{Adds};
+ghost use Rattle.rip_report.specs.Outs.{AddsOne};
 
-use crate::explain::lines::{heard_text, none_heard_text};
+use crate::explain::lines::{push_heard_line, push_none_heard_line};
 use crate::explain::places::add_shown;
-use crate::lines::verdicts::unclear_text;
-use crate::listing::Listing;
+use crate::lines::verdicts::push_unclear_line;
 use crate::loops::{InterfaceText, PairText, add_interfaces, add_listed, add_pairs};
-use rip_check::{Unclear, route};
+use crate::output::Out;
+use rip_check::{Case, Unclear};
 use rip_log::Sink;
 use rip_plan::Plan;
 use rip_table::MetricTable;
 
-/// An interface, where it was heard.
-#[derive(Clone, Copy)]
-struct Heard;
+/// The interfaces of a table that were heard.
+#[derive(Drop)]
+struct Heard<'a, T: MetricTable> {
+    plan: &'a Plan,
+    table: &'a T,
+}
 
-impl InterfaceText for Heard {
-    ghost fits = { λ _ _ _. Unit {0} };
+impl<T: MetricTable> InterfaceText for Heard<'_, T> {
+    ghost is_for = { λ texts i. Fits texts.plan.now (T.state texts.table.now)
+        × (i < length texts.plan.now.interfaces) };
 
-    ghost is_for = { λ _ n i. i < length n.interfaces };
+    ghost is_text = { λ texts i. HeardLine texts.plan.now (T.state texts.table.now) i };
 
-    ghost is_text = { λ _ n s i. HeardLine n s i };
-
-    fn add<T: MetricTable, K: Sink>(
-        &self,
-        listing: &mut Listing,
-        plan: &Plan,
-        table: &T,
-        number: usize,
-        out: &mut K,
-    ) {
-        plan.lawful();
-        if table.heard(number) {
-            listing.add(&heard_text(plan, plan.interface(number)), out);
+    fn add<K: Sink>(&self, out: &mut Out<K>, number: usize) {
+        self.plan.lawful();
+        if self.table.heard(number) {
+            push_heard_line(out, self.plan, self.plan.interface(number));
         }
     }
 }
@@ -60,93 +55,67 @@ fn any_heard<T: MetricTable>(plan: &Plan, table: &T, link: usize) -> bool
 }
 
 /// Adds the interfaces on a link that were heard, or that none was.
-fn add_heard<T: MetricTable, K: Sink>(
-    listing: &mut Listing,
-    plan: &Plan,
-    table: &T,
-    link: usize,
-    out: &mut K,
-)
+fn add_heard<T: MetricTable, K: Sink>(out: &mut Out<K>, plan: &Plan, table: &T, link: usize)
     requires fits { Fits plan.now (T.state table.now) }
     requires link { link < length plan.now.links }
-    ensures { (text : List ℕ) × HeardLines plan.now (T.state table.now) link text
-        × Adds K.taken K.broken out.old out.new listing.old listing.new text }
+    ensures { AddsOne out.old out.new (HeardLines plan.now (T.state table.now) link) }
 {
     if any_heard(plan, table, link) {
-        add_listed(&Heard, listing, plan, table, plan.on_link(link), out);
+        add_listed(out, &Heard { plan, table }, plan.on_link(link));
     } else {
-        listing.add(&none_heard_text(plan, link), out);
+        push_none_heard_line(out, plan, link);
     }
 }
 
 /// Adds what a trouble comes from.
-fn add_under<T: MetricTable, K: Sink>(
-    listing: &mut Listing,
-    plan: &Plan,
-    table: &T,
-    trouble: &Unclear,
-    out: &mut K,
-)
+fn add_under<T: MetricTable, K: Sink>(out: &mut Out<K>, plan: &Plan, table: &T, trouble: &Unclear)
     requires fits { Fits plan.now (T.state table.now) }
     requires trouble { IsTroubleOf plan.now (T.state table.now) trouble.now }
-    ensures { (text : List ℕ) × UnderTrouble plan.now (T.state table.now) trouble.now text
-        × Adds K.taken K.broken out.old out.new listing.old listing.new text }
+    ensures { AddsOne out.old out.new (UnderTrouble plan.now (T.state table.now) trouble.now) }
 {
     match *trouble {
-        Unclear::NotHeard { link, .. } => add_heard(listing, plan, table, link, out),
+        Unclear::NotHeard { link, .. } => add_heard(out, plan, table, link),
         Unclear::TwoMetrics { router, prefix }
         | Unclear::Missing { router, prefix, .. }
         | Unclear::ShownOn { router, prefix, .. }
         | Unclear::TwoWays { router, prefix } => {
-            add_shown(listing, plan, table, router, prefix, out);
+            add_shown(out, &Case::new(plan, table, prefix), router);
         }
     }
 }
 
 /// Adds the line of a trouble, and what it comes from.
-fn add_trouble<T: MetricTable, K: Sink>(
-    listing: &mut Listing,
-    plan: &Plan,
-    table: &T,
-    trouble: &Unclear,
-    out: &mut K,
-)
+fn add_trouble<T: MetricTable, K: Sink>(out: &mut Out<K>, plan: &Plan, table: &T, trouble: &Unclear)
     requires fits { Fits plan.now (T.state table.now) }
     requires trouble { IsTroubleOf plan.now (T.state table.now) trouble.now }
-    ensures { (text : List ℕ) × TroubleLines plan.now (T.state table.now) trouble.now text
-        × Adds K.taken K.broken out.old out.new listing.old listing.new text }
+    ensures { AddsOne out.old out.new (TroubleLines plan.now (T.state table.now) trouble.now) }
 {
-    listing.add(&unclear_text(plan, table, trouble), out);
-    add_under(listing, plan, table, trouble, out);
+    push_unclear_line(out, plan, table, trouble);
+    add_under(out, plan, table, trouble);
 }
 
-/// An interface, where it was not heard.
-#[derive(Clone, Copy)]
-struct Unheard;
+/// The interfaces of a table that were not heard.
+#[derive(Drop)]
+struct Unheard<'a, T: MetricTable> {
+    plan: &'a Plan,
+    table: &'a T,
+}
 
-impl InterfaceText for Unheard {
-    ghost fits = { λ _ _ _. Unit {0} };
+impl<T: MetricTable> InterfaceText for Unheard<'_, T> {
+    ghost is_for = { λ texts i. Fits texts.plan.now (T.state texts.table.now)
+        × (i < length texts.plan.now.interfaces) };
 
-    ghost is_for = { λ _ n i. i < length n.interfaces };
+    ghost is_text = { λ texts i. UnheardLines texts.plan.now (T.state texts.table.now) i };
 
-    ghost is_text = { λ _ n s i. UnheardLines n s i };
-
-    fn add<T: MetricTable, K: Sink>(
-        &self,
-        listing: &mut Listing,
-        plan: &Plan,
-        table: &T,
-        number: usize,
-        out: &mut K,
-    ) {
-        plan.lawful();
-        if !table.heard(number) {
-            let own = plan.interface(number);
+    fn add<K: Sink>(&self, out: &mut Out<K>, number: usize) {
+        self.plan.lawful();
+        if !self.table.heard(number) {
+            let own = self.plan.interface(number);
             let trouble = Unclear::NotHeard {
                 router: own.router,
                 link: own.link,
             };
-            add_trouble(listing, plan, table, &trouble, out);
+            add_trouble(out, self.plan, self.table, &trouble);
         }
     }
 }
@@ -160,62 +129,47 @@ impl PairText for Unread {
 
     ghost is_text = { λ _ n s r p. UnreadLines n s r p };
 
-    fn add<T: MetricTable, K: Sink>(
-        &self,
-        listing: &mut Listing,
-        plan: &Plan,
-        table: &T,
-        router: usize,
-        prefix: usize,
-        out: &mut K,
-    ) {
-        plan.lawful();
-        if let Err(trouble) = route(plan, table, router, prefix) {
-            add_trouble(listing, plan, table, &trouble, out);
+    fn add<T: MetricTable, K: Sink>(&self, out: &mut Out<K>, case: &Case<'_, T>, router: usize) {
+        case.plan.lawful();
+        if let Err(trouble) = case.route(router) {
+            add_trouble(out, case.plan, case.table, &trouble);
         }
     }
 }
 
 /// Adds all troubles of the kind of one.
-fn add_troubles<T: MetricTable, K: Sink>(
-    listing: &mut Listing,
-    plan: &Plan,
-    table: &T,
-    first: &Unclear,
-    out: &mut K,
-)
+fn add_troubles<T: MetricTable, K: Sink>(out: &mut Out<K>, plan: &Plan, table: &T, first: &Unclear)
     requires { Fits plan.now (T.state table.now) }
-    ensures { (text : List ℕ) × AllTroubles plan.now (T.state table.now) first.now text
-        × Adds K.taken K.broken out.old out.new listing.old listing.new text }
+    ensures { AddsOne out.old out.new (AllTroubles plan.now (T.state table.now) first.now) }
 {
     match first {
-        Unclear::NotHeard { .. } => add_interfaces(&Unheard, listing, plan, table, out),
+        Unclear::NotHeard { .. } => {
+            add_interfaces(out, &Unheard { plan, table }, plan.interfaces());
+        }
         Unclear::TwoMetrics { .. }
         | Unclear::Missing { .. }
         | Unclear::ShownOn { .. }
         | Unclear::TwoWays { .. } => {
-            add_pairs(&Unread, listing, plan, table, out);
+            add_pairs(out, &Unread, plan, table);
         }
     }
 }
 
 /// Adds the first trouble, or all of its kind, and what they come from.
 pub(crate) fn add_unclear<T: MetricTable, K: Sink>(
-    listing: &mut Listing,
+    out: &mut Out<K>,
     plan: &Plan,
     table: &T,
     all: bool,
     first: &Unclear,
-    out: &mut K,
 )
     requires fits { Fits plan.now (T.state table.now) }
     requires first { IsTroubleOf plan.now (T.state table.now) first.now }
-    ensures { (text : List ℕ) × UnclearText plan.now (T.state table.now) all first.now text
-        × Adds K.taken K.broken out.old out.new listing.old listing.new text }
+    ensures { AddsOne out.old out.new (UnclearText plan.now (T.state table.now) all first.now) }
 {
     if all {
-        add_troubles(listing, plan, table, first, out);
+        add_troubles(out, plan, table, first);
     } else {
-        add_trouble(listing, plan, table, first, out);
+        add_trouble(out, plan, table, first);
     }
 }

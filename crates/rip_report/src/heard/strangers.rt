@@ -1,54 +1,74 @@
 //! What each stranger sent.
 
-ghost use Rattle.std.specs.Prelude.{◌≡◌, [], List, length, ℕ};
+ghost use Rattle.std.specs.Prelude.{[], List, length};
 ghost use Rattle.rip_table.specs.Events.{EventAt};
 ghost use Rattle.rip_table.specs.Tallies.{HasHeard, origin_of, told_after};
-ghost use Rattle.rip_report.specs.HeardText.{StrangerLines, ToldLines};
-ghost use Rattle.rip_report.specs.Listings.{Adds, TextsBelow};
+ghost use Rattle.rip_report.specs.HeardText.{StrangerLines, ToldLines, any_responses_part, stranger_part};
+ghost use Rattle.rip_report.specs.Listings.{TextsBelow};
+ghost use Rattle.rip_report.specs.Outs.{Adds, AddsOne};
 
-use crate::heard::kinds::add_bad;
-use crate::heard::lines::{stranger_text, stranger_who_text};
-use crate::listing::Listing;
+use crate::heard::lines::{push_bad_line, push_responses};
+use crate::heard::who::add_stranger_who;
+use crate::output::Out;
 use rip_log::Sink;
 use rip_plan::Plan;
-use rip_table::{StrangerTally, Tallies};
+use rip_table::{Lines, StrangerTally, Tallies};
 use rip_wire::Address;
 use std::hash::BuildHasher;
 
+/// Adds how many responses there are, and their lines, or that there are none.
+fn push_any_responses<K: Sink>(out: &mut Out<K>, lines: Lines)
+    ensures { Adds out.old out.new (any_responses_part lines) }
+{
+    if lines.count == 0 {
+        out.push("no responses");
+    } else {
+        push_responses(out, lines);
+    }
+}
+
+/// Adds how much a stranger sent, behind the name of its link.
+#[tactic(auto, unfolding(crate::specs::HeardText::stranger_part))]
+fn push_stranger_part<K: Sink>(out: &mut Out<K>, address: Address, responses: Lines)
+    ensures { Adds out.old out.new (stranger_part address responses) }
+{
+    out.push(" ");
+    out.push_address(address);
+    out.push(" ");
+    push_any_responses(out, responses);
+    out.push(": ");
+}
+
 /// Adds the lines of a stranger that sent this.
 fn add_stranger<K: Sink>(
-    listing: &mut Listing,
+    out: &mut Out<K>,
     plan: &Plan,
     link: &str,
     address: Address,
     tally: StrangerTally,
-    out: &mut K,
 )
-    ensures { (text : List ℕ)
-        × StrangerLines plan.now (origin_of link.now address) tally text
-        × Adds K.taken K.broken out.old out.new listing.old listing.new text }
+    ensures { AddsOne out.old out.new (StrangerLines plan.now (origin_of link.now address) tally) }
 {
-    listing.add_text("stranger ", out);
-    listing.add_text(link, out);
-    listing.add(&stranger_text(address, tally.responses), out);
-    listing.add(&stranger_who_text(plan, link, address), out);
-    add_bad(listing, tally.bad, tally.first_bad, out);
+    out.push("stranger ");
+    out.push(link);
+    push_stranger_part(out, address, tally.responses);
+    add_stranger_who(out, plan, link, address);
+    out.end();
+    push_bad_line(out, tally.bad, tally.first_bad);
 }
 
 /// Adds the lines of all strangers that are told.
 pub(super) fn add_strangers<S: BuildHasher + Drop, K: Sink>(
-    listing: &mut Listing,
+    out: &mut Out<K>,
     plan: &Plan,
     tallies: &Tallies<S>,
-    out: &mut K,
 )
-    ensures { (events : List EventAt) → HasHeard tallies.now events → (text : List ℕ)
-        × TextsBelow (ToldLines plan.now events) (length (told_after [] events)) text
-        × Adds K.taken K.broken out.old out.new listing.old listing.new text }
+    ensures { (events : List EventAt) → HasHeard tallies.now events → AddsOne out.old out.new
+        (TextsBelow (ToldLines plan.now events) (length (told_after [] events))) }
 {
     for k in 0..tallies.strangers() {
         let link = tallies.stranger_link(k);
         let address = tallies.stranger_address(k);
-        add_stranger(listing, plan, link, address, tallies.stranger(k), out);
+        add_stranger(out, plan, link, address, tallies.stranger(k));
     }
 }

@@ -1,13 +1,14 @@
 //! Who has an address.
 
-ghost use Rattle.std.specs.Prelude.{◌≡◌, ◌+◌, ◌≤◌, ◌++◌, ℕ, List, Decides, IfNone, IfSome, length};
+ghost use Rattle.std.specs.Prelude.{ℕ, Decides, IfNone, IfSome};
 ghost use Rattle.rip_plan.specs.Relations.{HasAddress};
 ghost use Rattle.rip_table.specs.Tallies.{origin_of};
-ghost use Rattle.rip_report.specs.declared.limits.TheConstants.{LINE_BYTES, STRANGER_WHO, WHO};
 ghost use Rattle.rip_report.specs.HeardText.{IsFirstHolder, IsPlanned, StrangerWho, WhoText};
+ghost use Rattle.rip_report.specs.Outs.{AddsOne};
 
-use crate::line::Line;
 use crate::names::{push_link, push_router};
+use crate::output::Out;
+use rip_log::Sink;
 use rip_plan::{Interface, Plan};
 use rip_wire::Address;
 
@@ -25,19 +26,17 @@ fn first_holder(plan: &Plan, address: Address) -> Option<Interface>
 }
 
 /// Adds who has an address.
-pub(super) fn push_who(text: &mut Line, plan: &Plan, address: Address)
-    requires { length text.old + WHO ≤ LINE_BYTES }
-    ensures text { (who : List ℕ) × WhoText plan.now address who × (text.new ≡ text.old ++ who) }
-    ensures size { length text.new ≤ length text.old + WHO }
+pub(super) fn add_who<K: Sink>(out: &mut Out<K>, plan: &Plan, address: Address)
+    ensures { AddsOne out.old out.new (WhoText plan.now address) }
 {
     plan.lawful();
     match first_holder(plan, address) {
         Some(interface) => {
-            push_router(text, plan, interface.router);
-            text.push(" has the address on ");
-            push_link(text, plan, interface.link);
+            push_router(out, plan, interface.router);
+            out.push(" has the address on ");
+            push_link(out, plan, interface.link);
         }
-        None => text.push("nobody has the address"),
+        None => out.push("nobody has the address"),
     }
 }
 
@@ -54,14 +53,11 @@ fn is_planned(plan: &Plan, name: &str) -> bool
 }
 
 /// Adds who has a stranger's address, after a note where its link is not in the plan.
-pub(super) fn push_stranger_who(text: &mut Line, plan: &Plan, link: &str, address: Address)
-    requires { length text.old + STRANGER_WHO ≤ LINE_BYTES }
-    ensures text { (who : List ℕ) × StrangerWho plan.now (origin_of link.now address) who
-        × (text.new ≡ text.old ++ who) }
-    ensures size { length text.new ≤ length text.old + STRANGER_WHO }
+pub(super) fn add_stranger_who<K: Sink>(out: &mut Out<K>, plan: &Plan, link: &str, address: Address)
+    ensures { AddsOne out.old out.new (StrangerWho plan.now (origin_of link.now address)) }
 {
     if !is_planned(plan, link) {
-        text.push("no link of that name, ");
+        out.push("no link of that name, ");
     }
-    push_who(text, plan, address);
+    add_who(out, plan, address);
 }

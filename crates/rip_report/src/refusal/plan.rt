@@ -1,20 +1,18 @@
 //! What is printed where a plan is refused.
 
-ghost use Rattle.std.specs.Prelude.{◌≡◌, ◌≢◌, ◌+◌, ◌≤◌, ◌↔◌, ◌++◌, Err, length};
-ghost use Rattle.rip_report.specs.declared.limits.TheConstants.{CODE_WORD, LINE_BYTES, PLAN_CODE, POSITION};
+ghost use Rattle.std.specs.Prelude.{◌≡◌, ◌≢◌, ◌↔◌, Err};
+ghost use Rattle.rip_report.specs.Outs.{Adds};
 ghost use Rattle.rip_report.specs.PlanText.{at_text, plan_code_text, refused_plan, word_of};
 ghost use Rattle.rip_report.specs.Sent.{Prints};
 
-use crate::line::Line;
-use crate::output::{finish, write_all};
+use crate::output::Out;
 use crate::status::{RunError, Status};
 use rip_log::Sink;
 use rip_plan::{At, PlanCode, PlanError};
 
 /// The word of a code.
 fn word(code: PlanCode) -> &'static str
-    ensures text { result.now ≡ word_of code }
-    ensures short { length result.now ≤ CODE_WORD }
+    ensures { result.now ≡ word_of code }
 {
     match code {
         PlanCode::Syntax => "Syntax",
@@ -37,67 +35,59 @@ fn word(code: PlanCode) -> &'static str
 }
 
 /// Adds the number and the word of a code.
-fn push_code(text: &mut Line, code: PlanCode)
-    requires { length text.old + PLAN_CODE ≤ LINE_BYTES }
-    ensures text { text.new ≡ text.old ++ plan_code_text code }
-    ensures size { length text.new ≤ length text.old + PLAN_CODE }
+fn push_code<K: Sink>(out: &mut Out<K>, code: PlanCode)
+    ensures { Adds out.old out.new (plan_code_text code) }
 {
-    text.push_number(u64::from(code.number()));
-    text.push(" ");
-    text.push(word(code));
+    out.push_number(u64::from(code.number()));
+    out.push(" ");
+    out.push(word(code));
 }
 
 /// Adds a position in a plan's text.
-fn push_at(text: &mut Line, place: At)
-    requires { length text.old + POSITION ≤ LINE_BYTES }
-    ensures text { text.new ≡ text.old ++ at_text place }
-    ensures size { length text.new ≤ length text.old + POSITION }
+fn push_at<K: Sink>(out: &mut Out<K>, place: At)
+    ensures { Adds out.old out.new (at_text place) }
 {
     match place {
-        At::Text => text.push("text"),
-        At::Version => text.push("version"),
-        At::Link(i) => text.push_numbered("link ", i),
+        At::Text => out.push("text"),
+        At::Version => out.push("version"),
+        At::Link(i) => out.push_numbered("link ", i),
         At::LinkPrefix(i, j) => {
-            text.push_numbered("link ", i);
-            text.push_numbered(" prefix ", j);
+            out.push_numbered("link ", i);
+            out.push_numbered(" prefix ", j);
         }
-        At::Router(i) => text.push_numbered("router ", i),
+        At::Router(i) => out.push_numbered("router ", i),
         At::RouterInterface(i, j) => {
-            text.push_numbered("router ", i);
-            text.push_numbered(" interface ", j);
+            out.push_numbered("router ", i);
+            out.push_numbered(" interface ", j);
         }
         At::RouterOwn(i, j) => {
-            text.push_numbered("router ", i);
-            text.push_numbered(" own ", j);
+            out.push_numbered("router ", i);
+            out.push_numbered(" own ", j);
         }
     }
 }
 
-/// The line of a fault.
-fn fault_text(error: PlanError) -> Line
-    ensures { result ≡ (refused_plan error).text }
+/// Adds the line of a fault.
+fn push_fault_line<K: Sink>(out: &mut Out<K>, error: PlanError)
+    ensures { Adds out.old out.new ((refused_plan error).text) }
 {
-    let mut text = Line::new();
-    text.push("refused: plan ");
-    push_code(&mut text, error.code);
-    text.push(" at ");
-    push_at(&mut text, error.place);
-    text.end();
-    text
+    out.push("refused: plan ");
+    push_code(out, error.code);
+    out.push(" at ");
+    push_at(out, error.place);
+    out.end();
 }
 
 /// Ends a run whose plan is refused, or for whose plan there is no memory.
-pub(crate) fn refuse_plan<K: Sink>(error: PlanError, out: &mut K) -> Result<Status, RunError>
-    ensures prints { Prints K.taken K.broken out.old out.new result
-        (λ w. w ≡ refused_plan error) }
-    ensures memory { (result ≡ Err RunError.Memory) ↔ (error.code ≡ PlanCode.Memory) }
-    ensures read { result ≢ Err RunError.Read }
+pub(crate) fn refuse_plan<K: Sink>(error: PlanError, out: K) -> (K, Result<Status, RunError>)
+    ensures prints { Prints K.taken K.broken out result.0 result.1 (λ w. w ≡ refused_plan error) }
+    ensures memory { (result.1 ≡ Err RunError.Memory) ↔ (error.code ≡ PlanCode.Memory) }
+    ensures read { result.1 ≢ Err RunError.Read }
 {
     if error.code == PlanCode::Memory {
-        return Err(RunError::Memory);
+        return (out, Err(RunError::Memory));
     }
-    finish(
-        write_all(out, fault_text(error).as_bytes()),
-        Status::Refused,
-    )
+    let mut text = Out::new(out);
+    push_fault_line(&mut text, error);
+    text.finish_with(Status::Refused)
 }

@@ -1,16 +1,16 @@
 //! What is printed of a fault of a datagram.
 
-ghost use Rattle.std.specs.Prelude.{◌≡◌, ◌+◌, ◌≤◌, ◌++◌, length};
-ghost use Rattle.rip_report.specs.declared.limits.TheConstants.{LINE_BYTES, WIRE_FAULT, WORDS};
+ghost use Rattle.std.specs.Prelude.{◌≡◌};
 ghost use Rattle.rip_report.specs.DecodeText.{wire_code_text, wire_fault_text};
+ghost use Rattle.rip_report.specs.Outs.{Adds};
 
-use crate::line::Line;
+use crate::output::Out;
+use rip_log::Sink;
 use rip_wire::{WireCode, WireError};
 
 /// The number and the word of a code.
 fn code_text(code: WireCode) -> &'static str
-    ensures text { result.now ≡ wire_code_text code }
-    ensures short { length result.now ≤ WORDS }
+    ensures { result.now ≡ wire_code_text code }
 {
     match code {
         WireCode::Short => "1 Short",
@@ -30,12 +30,10 @@ fn code_text(code: WireCode) -> &'static str
 }
 
 /// Adds a fault of a datagram.
-pub(crate) fn push_wire_fault(text: &mut Line, error: WireError)
-    requires { length text.old + WIRE_FAULT ≤ LINE_BYTES }
-    ensures text { text.new ≡ text.old ++ wire_fault_text error.code error.at }
-    ensures size { length text.new ≤ length text.old + WIRE_FAULT }
+pub(crate) fn push_wire_fault<K: Sink>(out: &mut Out<K>, error: WireError)
+    ensures { Adds out.old out.new (wire_fault_text error.code error.at) }
 {
-    text.push(code_text(error.code));
-    text.push(" at ");
-    text.push_number(error.at as u64);
+    out.push(code_text(error.code));
+    out.push(" at ");
+    out.push_number(error.at as u64);
 }

@@ -1,51 +1,45 @@
 //! A short text.
 
-ghost use Rattle.std.specs.Prelude.{◌≡◌, ◌≤◌, [], length};
-ghost use Rattle.rip_report.specs.declared.limits.TheConstants.{TEXT_BYTES};
+ghost use Rattle.std.specs.Prelude.{◌≡◌, ◌+◌, ◌≤◌, ◌++◌, [], length};
 
-use crate::limits::TEXT_BYTES;
-use crate::line::Line;
-
-/// A text of at most [`TEXT_BYTES`] bytes.
+/// A text of at most `N` bytes.
 #[derive(Clone, Copy)]
-pub(crate) struct Text {
-    bytes: [u8; TEXT_BYTES],
+pub(crate) struct Text<const N: usize> {
+    bytes: [u8; N],
     used: usize,
-    ghost short: { used ≤ TEXT_BYTES },
+    ghost short: { used ≤ N },
 }
 
-impl Text {
+impl<const N: usize> Text<N> {
     ghost use Rattle.rip_report.specs.Texts.{text_of};
 
     /// No text.
-    pub(crate) fn empty() -> Text
+    pub(crate) fn new() -> Text<N>
         ensures { text_of result ≡ [] }
     {
         Text {
-            bytes: [0; TEXT_BYTES],
+            bytes: [0; N],
             used: 0,
         }
     }
 
-    /// The text of a line.
-    pub(crate) fn of(line: &Line) -> Text
-        requires { length line.now ≤ TEXT_BYTES }
-        ensures { text_of result ≡ line.now }
+    /// Adds text that there is room for.
+    pub(crate) fn push(&mut self, text: &str)
+        requires { length (text_of self.old) + length text.now ≤ N }
+        ensures text { text_of self.new ≡ text_of self.old ++ text.now }
+        ensures size { length (text_of self.new) ≡ length (text_of self.old) + length text.now }
     {
-        let text = line.as_bytes();
-        let mut bytes = [0; TEXT_BYTES];
-        bytes[..text.len()].copy_from_slice(text);
-        Text {
-            bytes,
-            used: text.len(),
-        }
+        let end = self.used + text.len();
+        let bytes = &mut self.bytes[..];
+        bytes[self.used..end].copy_from_slice(text.as_bytes());
+        self.used = end;
     }
 
     /// The bytes of the text.
     pub(crate) fn as_bytes(&self) -> &[u8]
-        ensures bytes { result.now ≡ text_of self.now }
-        ensures short { length result.now ≤ TEXT_BYTES }
+        ensures { result.now ≡ text_of self.now }
     {
-        &self.bytes[..self.used]
+        let bytes = &self.bytes[..];
+        &bytes[..self.used]
     }
 }

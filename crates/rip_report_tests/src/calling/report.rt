@@ -19,15 +19,16 @@ use std::alloc::Global;
 use std::hash::{BuildHasherDefault, FoldHasher};
 
 /// The status of the verdict that a plan and a log give, of a file or of any other source. The
-/// verdict's line goes out. The source comes back, and has given the text that was judged.
+/// verdict's line goes out. The source comes back, and has given the text that was judged, and so does
+/// the sink.
 fn verdict_of<R: Source, K: Sink>(
     alloc: Global,
     plan: &[u8],
     log: R,
-    out: &mut K,
-) -> (R, Result<Status, RunError>)
+    out: K,
+) -> (R, K, Result<Status, RunError>)
     ensures { (text : List ℕ) → IsGiven R.given R.at_end log result.0 text →
-        (n : Network) (s : State) → IsAccepted plan.now text n s → IfOk result.1 (IsJudged n s) }
+        (n : Network) (s : State) → IsAccepted plan.now text n s → IfOk result.2 (IsJudged n s) }
 {
     let hasher = BuildHasherDefault::<FoldHasher>::default();
     run_audit(alloc, plan, log, out, false, hasher)
@@ -39,13 +40,13 @@ fn log_of<R: Source, K: Sink>(
     alloc: Global,
     link: &str,
     file: R,
-    out: &mut K,
-) -> (R, Result<Status, RunError>)
+    out: K,
+) -> (R, K, Result<Status, RunError>)
     requires { IsName link.now }
     ensures { (bytes : List ℕ) → IsGiven R.given R.at_end file result.0 bytes →
-        result.1 ≢ Err RunError.Write → (text : List ℕ)
-        × LogOf Authentication.AsSent (record { link = link.now; bytes = bytes } ∷ []) text result.1
-        × Took (K.taken out.old) (K.taken out.new) text }
+        result.2 ≢ Err RunError.Write → (text : List ℕ)
+        × LogOf Authentication.AsSent (record { link = link.now; bytes = bytes } ∷ []) text result.2
+        × Took (K.taken out) (K.taken result.1) text }
 {
     let mut log = CaptureLog::new(Authentication::AsSent);
     run_log(alloc, &mut log, link, file, out)
@@ -69,17 +70,17 @@ fn audit_into(
     ensures memory { result.1 ≡ Err RunError.Memory → result.0.items ≡ lines.items }
 {
     let hasher = BuildHasherDefault::<FoldHasher>::default();
-    let mut out = IntoWrite::new(lines);
-    let (_, answer) = run_audit(alloc, plan, FromRead::new(log), &mut out, false, hasher);
+    let out = IntoWrite::new(lines);
+    let (_, out, answer) = run_audit(alloc, plan, FromRead::new(log), out, false, hasher);
     (out.into_writer(), answer)
 }
 
 #[test]
 fn a_log_is_audited(rt: HostRuntime) {
-    let mut out = IntoWrite::new(Vec::new(rt.alloc()));
     for (log, status) in [(SETTLED, Status::Settled), (PHANTOM, Status::Unsettled)] {
+        let out = IntoWrite::new(Vec::new(rt.alloc()));
         let log = FromRead::new(log.as_bytes());
-        let (_, answer) = verdict_of(rt.alloc(), TRIANGLE.as_bytes(), log, &mut out);
+        let (_, _, answer) = verdict_of(rt.alloc(), TRIANGLE.as_bytes(), log, out);
         assert_eq!(rt; answer, Ok(status));
     }
 }
@@ -102,10 +103,10 @@ unsettled: router r1 prefix 10.9.0.0/16: metric 2, equation 3
 
 #[test]
 fn a_capture_becomes_a_log(rt: HostRuntime) {
-    let mut out = IntoWrite::new(Vec::new(rt.alloc()));
+    let out = IntoWrite::new(Vec::new(rt.alloc()));
     let link = "10.2.0.0-16";
     assert!(rt; is_name(link.as_bytes()));
-    let (_, answer) = log_of(rt.alloc(), link, FromRead::new(&LITTLE[..]), &mut out);
+    let (_, out, answer) = log_of(rt.alloc(), link, FromRead::new(&LITTLE[..]), out);
     assert_eq!(rt; answer, Ok(Status::Done));
     let text = b"10.2.0.0-16 10.1.0.1 02020000000200000a020000ffff00000000000000000003
 # file 1 link 10.2.0.0-16: 1 packets, 1 datagrams

@@ -38,8 +38,8 @@ fn expect_answer<'a>(
     text: &str,
 ) -> FromRead<Pieces<'a>> {
     let mut log = CaptureLog::new(Authentication::AsSent);
-    let mut out = IntoWrite::new(Vec::new(alloc));
-    let (source, answer) = add(rt, alloc, &mut log, "a", file, &mut out);
+    let out = IntoWrite::new(Vec::new(alloc));
+    let (source, out, answer) = add(rt, alloc, &mut log, "a", file, out);
     assert!(rt; answer == due && !out.failed());
     assert!(rt; out.into_writer().as_slice() == text.as_bytes());
     source
@@ -81,8 +81,8 @@ fn a_source_that_fails(rt: HostRuntime) -> Result<(), Fail> {
 /// Expects the beginning of the text where the sink fails after so many bytes of it.
 fn expect_write_failure(rt: &impl Abort, alloc: Global, file: &[u8], most: usize) {
     let mut log = CaptureLog::new(Authentication::AsSent);
-    let mut out = IntoWrite::new(Slow::new(alloc, most));
-    let (source, answer) = add(rt, alloc, &mut log, "a", file, &mut out);
+    let out = IntoWrite::new(Slow::new(alloc, most));
+    let (source, out, answer) = add(rt, alloc, &mut log, "a", file, out);
     assert!(rt; answer == Err(RunError::Write) && out.failed() && !source.failed());
     let taken = out.into_writer();
     assert!(rt; Some(taken.taken()) == TEXT.as_bytes().get(..most));

@@ -36,9 +36,9 @@ fn two_files(rt: HostRuntime) -> Result<(), Fail> {
     let alloc = rt.alloc();
     let file = file_of(alloc, &[DATAGRAM, CUT])?;
     let mut log = CaptureLog::new(Authentication::AsSent);
-    let mut out = IntoWrite::new(Vec::new(alloc));
-    let (_, first) = add(&rt, alloc, &mut log, "a", file.as_slice(), &mut out);
-    let (_, second) = add(&rt, alloc, &mut log, "10.2.0.0-16", &LITTLE[..], &mut out);
+    let out = IntoWrite::new(Vec::new(alloc));
+    let (_, out, first) = add(&rt, alloc, &mut log, "a", file.as_slice(), out);
+    let (_, out, second) = add(&rt, alloc, &mut log, "10.2.0.0-16", &LITTLE[..], out);
     assert!(rt; first == Ok(Status::Unclear) && second == Ok(Status::Done));
     assert!(rt; log.status() == Status::Unclear);
     assert!(rt; out.into_writer().as_slice() == TWO_FILES.as_bytes());
@@ -121,9 +121,9 @@ fn logs_read_back(rt: HostRuntime) -> Result<(), Fail> {
     let alloc = rt.alloc();
     let file = file_of(alloc, &[DATAGRAM, b"\x60", DATAGRAM])?;
     let mut log = CaptureLog::new(Authentication::AsSent);
-    let mut out = IntoWrite::new(Vec::new(alloc));
-    let (_, first) = add(&rt, alloc, &mut log, "a", &LITTLE[..], &mut out);
-    let (_, second) = add(&rt, alloc, &mut log, "a", file.as_slice(), &mut out);
+    let out = IntoWrite::new(Vec::new(alloc));
+    let (_, out, first) = add(&rt, alloc, &mut log, "a", &LITTLE[..], out);
+    let (_, out, second) = add(&rt, alloc, &mut log, "a", file.as_slice(), out);
     assert!(rt; first == Ok(Status::Done) && second == Ok(Status::Done));
     let text = out.into_writer();
     let Ok(mut reader) = LogReader::new(alloc, FromRead::new(Pieces::new(text.as_slice(), 7)))
@@ -153,8 +153,9 @@ fn lines_of_failures(rt: HostRuntime) {
         (RunError::Read, "failed: read\n"),
         (RunError::Memory, "failed: memory\n"),
     ] {
-        let mut out = IntoWrite::new(Vec::new(rt.alloc()));
-        assert!(rt; log_failure(error, &mut out) == Err(error));
+        let out = IntoWrite::new(Vec::new(rt.alloc()));
+        let (out, outcome) = log_failure(error, out);
+        assert!(rt; outcome == Err(error));
         assert!(rt; out.into_writer().as_slice() == text.as_bytes());
     }
 }
@@ -165,9 +166,9 @@ fn lines_of_failures(rt: HostRuntime) {
 fn a_log_that_is_full(rt: HostRuntime) {
     let alloc = rt.alloc();
     let mut log = CaptureLog::new(Authentication::AsSent);
-    let mut out = IntoWrite::new(Vec::new(alloc));
+    let out = IntoWrite::new(Vec::new(alloc));
     let file = (&HEADER[..]).chain(Endless::new(0, 65_536));
-    let (_, answer) = add(&rt, alloc, &mut log, "a", file, &mut out);
+    let (_, out, answer) = add(&rt, alloc, &mut log, "a", file, out);
     assert!(rt; answer == Ok(Status::Refused) && log.status() == Status::Done);
     let text = out.into_writer();
     let last = b"a unknown cut\nrefused: file 1 link a: 8 TooManyLines at 16000024\n";

@@ -8,7 +8,7 @@ use Rattle.rip_check.specs.Told.{told}
 pub returns-clause-headline : goal.returns-clause-headline
 returns-clause-headline g c =
     let e = c.run_report.ensures in
-    λ text given n s are. headline n s (IsAccepted c.args.plan.now text n s) c.run_report.result.1 (e.accepted text given n s are) (e.meaning text given n s)
+    λ text given n s are. headline n s (IsAccepted c.args.plan.now text n s) c.run_report.result.2 (e.accepted text given n s are) (e.meaning text given n s)
 
 pub returns-clause-known : goal.returns-clause-known
 returns-clause-known g c = λ text is. returns-clause-headline g c text (c.run_report.ensures.reads.draws.to_come text is)
@@ -20,4 +20,4 @@ returns-clause-one_set g c = λ text given n s accepted.
 pub returns-clause-plain : goal.returns-clause-plain
 returns-clause-plain g c =
     let e = c.run_report.ensures in
-    λ text given n s accepted plain. plain_headline n s c.run_report.result.1 (λ r p route. c.plain_paths.ensures.routes n r p route plain) (e.meaning text given n s accepted)
+    λ text given n s accepted plain. plain_headline n s c.run_report.result.2 (λ r p route. c.plain_paths.ensures.routes n r p route plain) (e.meaning text given n s accepted)

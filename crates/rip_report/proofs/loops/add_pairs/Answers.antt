@@ -1,27 +1,11 @@
 use Rattle.std.proofs.Common.{◌≡◌, length, arith}
-use Rattle.rip_report.specs.Listings.{TextsBelow}
-use Rattle.rip_report.proofs.ListingLemmas.{nothing_yet, one_more}
+use Rattle.rip_report.proofs.OutLemmas.{one_more}
 use Rattle.rip_report.proofs.loops.add_pairs.Goals as goal
 
-pub loop-router-init : goal.loop-router-init
-loop-router-init g c =
-    record {
-      so_far = nothing_yet g.K.Sink.taken g.K.Sink.broken
-          (λ r. TextsBelow (g.E.PairText.is_text c.args.texts.now c.args.plan.now (g.T.MetricTable.state c.args.table.now) r)
-          (length (g.T.MetricTable.state c.args.table.now).prefixes)) c.args.out.now c.args.listing.now;
-    }
-
 pub loop-router-preserved : goal.loop-router-preserved
-loop-router-preserved g c =
-    let more = c.add_row.ensures in
-    record {
-      so_far = one_more g.K.Sink.taken g.K.Sink.broken (λ r. TextsBelow (g.E.PairText.is_text c.args.texts.now c.args.plan.now (g.T.MetricTable.state c.args.table.now) r)
-          (length (g.T.MetricTable.state c.args.table.now).prefixes)) c.args.out.now c.loop-router.out c.add_row.new.out c.args.listing.now c.loop-router.listing c.add_row.new.listing
-          c.loop-router.router c.loop-router.invariant.so_far more.0 more.1 more.2;
-    }
+loop-router-preserved g c = record { adds = one_more _ c.loop-router.router c.loop-router.invariant.adds c.add_row.ensures }
 
 pub returns : goal.returns
 returns g c =
-    let so = c.loop-router.invariant.so_far in
     let all : c.loop-router.router ≡ length c.args.plan.now.routers = omega (arith, c.loop-router-test.false, c.loop-router.auto.router-end, c.routers-router-end.ensures) in
-    (so.text, rw all at so.texts, so.adds)
+    rw all at c.loop-router.invariant.adds

@@ -1,15 +1,18 @@
-use Rattle.std.proofs.Common.{[], ◌++◌}
-use Rattle.rip_report.proofs.ListingLemmas.{writes_none}
+use Rattle.std.proofs.Common.{◌++◌, refl}
+use Rattle.rip_report.specs.AnywayText.{AnywayRoutes}
+use Rattle.rip_report.specs.LeftOut.{left_out_line}
+use Rattle.rip_report.specs.RoutesText.{routes, routes_line}
+use Rattle.rip_report.specs.declared.status.Status.TheVariants.{Done}
+use Rattle.rip_report.proofs.EndLemmas.{ends_one}
+use Rattle.rip_report.proofs.OutLemmas.{adds_one, adds_then}
 use Rattle.rip_report.proofs.routes.write_routes.Goals as goal
 
-pub returns : goal.returns
-returns g c =
-    let taken = g.K.Sink.taken in
-    let broken = g.K.Sink.broken in
-    let a = c.args.out.now in
-    let first = c.args.first.now in
-    let silent = c.add_interfaces.ensures in
-    let more = c.add_pairs.ensures in
-    let none = writes_none taken broken a c.new-listing.result c.new-listing.ensures.page c.new-listing.ensures.wrote in
-    let all = more.2 a (first ++ silent.0) (silent.2 a first (c.add.ensures a [] none)) in
-    (silent.0, more.0, silent.1, more.1, c.finish.ensures a ((first ++ silent.0) ++ more.0) all)
+pub returns-clause-prints : goal.returns-clause-prints
+returns-clause-prints g c =
+    let lines = c.add_routes.ensures in
+    let n = c.args.plan.now in
+    let s = g.T.MetricTable.state c.args.table.now in
+    let left = left_out_line c.args.left_out in
+    let anyway : AnywayRoutes n s c.args.left_out (record { text = (routes_line n s ++ left) ++ lines.text; status = c.anyway_status.result }) = record { rest = lines.text; status = Done; is_text = routes lines.text lines.is_text; text = refl; answers = c.anyway_status.ensures } in
+    ends_one g.K.Sink.taken g.K.Sink.broken c.args.out c.finish_with.result.0 c.new-text.ensures.start c.new-text.ensures.text
+    (adds_one anyway (adds_then (adds_then c.push_counts_line.ensures c.push_left_out_line.ensures) lines.adds)) c.finish_with.ensures.ends

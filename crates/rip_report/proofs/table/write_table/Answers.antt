@@ -1,13 +1,21 @@
-use Rattle.std.proofs.Common.{◌++◌, ◌∙◌, List, ℕ, ap}
+use Rattle.std.proofs.Common.{◌++◌, length, refl}
 use Rattle.std.specs.List.{enumerate_from, flat_map}
-use Rattle.rip_report.specs.TableText.{interface_lines}
-use Rattle.rip_report.proofs.SentLemmas.{Writes-same}
+use Rattle.rip_report.specs.AnywayText.{AnywayTable}
+use Rattle.rip_report.specs.LeftOut.{left_out_line}
+use Rattle.rip_report.specs.TableText.{interface_lines, table_line}
+use Rattle.rip_report.specs.declared.status.Status.TheVariants.{Done}
+use Rattle.rip_report.proofs.EndLemmas.{ends_one}
+use Rattle.rip_report.proofs.OutLemmas.{adds_one, adds_same, adds_then}
 use Rattle.rip_report.proofs.TextLemmas.{same_counts}
 use Rattle.rip_report.proofs.table.write_table.Goals as goal
 
-pub returns : goal.returns
-returns g c =
+pub returns-clause-prints : goal.returns-clause-prints
+returns-clause-prints g c =
     let n = c.args.plan.now in
-    let interfaces = flat_map (interface_lines n (g.T.MetricTable.state c.args.table.now)) (enumerate_from 0 n.interfaces) in
-    let counts = c.counts_text-counts.ensures.text ∙ same_counts _ _ _ _ c.interfaces.ensures c.prefix_count.ensures in
-    Writes-same g.K.Sink.taken g.K.Sink.broken c.args.out.now c.write_lines.new.out c.write_lines.result _ _ _ (ap (λ (l : List ℕ). l ++ interfaces) counts) c.write_lines.ensures
+    let s = g.T.MetricTable.state c.args.table.now in
+    let first = table_line (length n.interfaces) (length s.prefixes) in
+    let lines = flat_map (interface_lines n s) (enumerate_from 0 n.interfaces) in
+    let anyway : AnywayTable n s c.args.left_out (record { text = (first ++ left_out_line c.args.left_out) ++ lines; status = c.anyway_status.result }) = record { rest = lines; status = Done; is_text = refl; text = refl; answers = c.anyway_status.ensures } in
+    let counts = adds_same (same_counts _ _ _ _ c.interfaces.ensures c.prefix_count.ensures) c.push_counts_line.ensures in
+    ends_one g.K.Sink.taken g.K.Sink.broken c.args.out c.finish_with.result.0 c.new-text.ensures.start c.new-text.ensures.text
+    (adds_one anyway (adds_then (adds_then counts c.push_left_out_line.ensures) c.push_interfaces.ensures)) c.finish_with.ensures.ends

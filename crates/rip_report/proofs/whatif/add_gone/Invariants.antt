@@ -1,8 +1,7 @@
-use Rattle.rip_report.specs.WhatifText.{GoneLine}
-use Rattle.rip_report.proofs.ListingLemmas.{SoFar}
+use Rattle.rip_report.specs.WhatifText.{LineOfGone}
+use Rattle.rip_report.specs.Listings.{TextsBelow}
+use Rattle.rip_report.specs.Outs.{AddsOne}
 use Rattle.rip_report.proofs.whatif.add_gone.Given as goal
 
 abbrev pub invariant-loop-prefix : goal.invariant-loop-prefix
-invariant-loop-prefix g l = record {
-  so_far : SoFar g.K.Sink.taken g.K.Sink.broken l.fn.out l.out l.fn.listing l.listing (GoneLine l.plan l.failure) l.prefix;
-}
+invariant-loop-prefix g l = record { so_far : AddsOne l.fn.out l.out (TextsBelow (LineOfGone l.losses) l.prefix) }

@@ -21,8 +21,8 @@ text-at words i = get_or-map (λ w. w.now) words i no_word
 below : (words : List (Bor (List ℕ))) (i : ℕ) → i < length words → i < length (texts words)
 below words i lt = omega (arith, lt, length-map words (λ (w : Bor (List ℕ)). w.now))
 
-pub log_word-answer-requires : goal.log_word-answer-requires
-log_word-answer-requires g c =
+pub log_word-back-requires : goal.log_word-back-requires
+log_word-back-requires g c =
     let words = c.args.words.now in
     let i = c.loop-i.i in
     let fine = c.requires.fine i (below words i c.loop-i-test.true) in
@@ -33,32 +33,32 @@ returns-then-ends_log-clause-log g c = λ files are wrote.
     let words = c.args.words.now in
     let i = c.loop-i.i in
     let taken = g.K.Sink.taken in
-    let word = c.log_word-answer in
+    let word = c.log_word-back in
     let inv = c.loop-i.invariant in
-    ended-files (taken c.args.out.now) (taken word.new.out) word.new.log c.args.authentication i word.result files (sym c.ends_log.ensures ∙ c.if-ends_log.true) (word.ensures.authentication ∙ inv.same)
+    ended-files (taken c.args.out) (taken word.result.0) word.new.log c.args.authentication i word.result.1 files (sym c.ends_log.ensures ∙ c.if-ends_log.true) (word.ensures.authentication ∙ inv.same)
     c.stopped_logs.ensures
-    (next-file (texts words) _ i (length (texts words)) c.loop-i.sources.items word.ensures.kept.0 word.new.sources.items c.loop-i.log word.new.log (taken c.args.out.now) (taken c.loop-i.out) (taken word.new.out)
-    word.result (text-at words i) inv.opened word.ensures.kept.1 (below words i c.loop-i-test.true) inv.so_far word.ensures.goes_on files are wrote)
+    (next-file (texts words) _ i (length (texts words)) c.loop-i.sources.items word.ensures.kept.0 word.new.sources.items c.loop-i.log word.new.log (taken c.args.out) (taken c.loop-i.out) (taken word.result.0)
+    word.result.1 (text-at words i) inv.opened word.ensures.kept.1 (below words i c.loop-i-test.true) inv.so_far word.ensures.goes_on files are wrote)
 
 pub returns-then-ends_log-clause-says : goal.returns-then-ends_log-clause-says
 returns-then-ends_log-clause-says g c = λ files are good wrote.
     let (text, took, log) = returns-then-ends_log-clause-log g c files are wrote in
-    (text, took, λ records says. c.captured_logs.ensures.says c.args.authentication files text c.log_word-answer.result records log good says)
+    (text, took, λ records says. c.captured_logs.ensures.says c.args.authentication files text c.log_word-back.result.1 records log good says)
 
 pub loop-i-preserved : goal.loop-i-preserved
 loop-i-preserved g c =
     let words = c.args.words.now in
     let i = c.loop-i.i in
     let taken = g.K.Sink.taken in
-    let word = c.log_word-answer in
+    let word = c.log_word-back in
     let inv = c.loop-i.invariant in
     record {
-      opened = was-read _ word.result (sym c.ends_log.ensures ∙ c.if-ends_log.false) word.ensures.read ∙ ap (λ n. n + 1) inv.opened;
+      opened = was-read _ word.result.1 (sym c.ends_log.ensures ∙ c.if-ends_log.false) word.ensures.read ∙ ap (λ n. n + 1) inv.opened;
       same = word.ensures.authentication ∙ inv.same;
       so_far = λ files are.
-          all-files (taken c.args.out.now) (taken word.new.out) word.new.log i word.result files are.size (sym c.ends_log.ensures ∙ c.if-ends_log.false)
-          (next-file (texts words) _ i (i + 1) c.loop-i.sources.items word.ensures.kept.0 word.new.sources.items c.loop-i.log word.new.log (taken c.args.out.now) (taken c.loop-i.out) (taken word.new.out)
-          word.result (text-at words i) inv.opened word.ensures.kept.1 (omega arith) inv.so_far word.ensures.goes_on files are (no-failure word.result (sym c.ends_log.ensures ∙ c.if-ends_log.false)));
+          all-files (taken c.args.out) (taken word.result.0) word.new.log i word.result.1 files are.size (sym c.ends_log.ensures ∙ c.if-ends_log.false)
+          (next-file (texts words) _ i (i + 1) c.loop-i.sources.items word.ensures.kept.0 word.new.sources.items c.loop-i.log word.new.log (taken c.args.out) (taken c.loop-i.out) (taken word.result.0)
+          word.result.1 (text-at words i) inv.opened word.ensures.kept.1 (omega arith) inv.so_far word.ensures.goes_on files are (no-failure word.result.1 (sym c.ends_log.ensures ∙ c.if-ends_log.false)));
     }
 
 pub returns-clause-log : goal.returns-clause-log

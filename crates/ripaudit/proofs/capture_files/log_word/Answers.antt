@@ -10,7 +10,7 @@ unreachable-requires g c = let (file, (path, is)) = c.requires in c.in_default.e
 pub returns-then-is_err-clause-goes_on : goal.returns-then-is_err-clause-goes_on
 returns-then-is_err-clause-goes_on g c = λ file named given files text is wrote.
     let (part, took, log_of) = c.log_failure.ensures.goes_on c.args.log.now files text file is wrote in
-    (part, took, failed-goes c.args.log.now _ _ c.log_failure.result _ (c.log_failure.ensures.ends.out wrote).0 log_of)
+    (part, took, failed-goes c.args.log.now _ _ c.log_failure.result.1 _ (c.log_failure.ensures.ends.out wrote).0 log_of)
 
 pub returns-then-is_err-clause-kept : goal.returns-then-is_err-clause-kept
 returns-then-is_err-clause-kept g c = ([], c.reserve.ensures.items ∙ sym (append-nil c.args.sources.now.items))
@@ -23,7 +23,7 @@ returns-clause-goes_on g c = λ file named given files text is wrote.
     let some = subst (λ l. IfSome source (λ s. all ≡ l ++ s ∷ [])) c.reserve.ensures.items c.keep.ensures.some in
     let link = (c.in-Some.ensures.found file.link named.0 named.1).0 in
     let (part, took, goes) = c.log_file-source.ensures.goes_on file.bytes (given-if source old all file.bytes some given) files text is wrote in
-    (part, took, subst (λ l. GoesOn c.log_file-source.new.log (files ++ record { link = l; bytes = file.bytes } ∷ []) (text ++ part) c.log_file-source.result.1) link goes)
+    (part, took, subst (λ l. GoesOn c.log_file-source.new.log (files ++ record { link = l; bytes = file.bytes } ∷ []) (text ++ part) c.log_file-source.result.2) link goes)
 
 pub returns-clause-kept : goal.returns-clause-kept
 returns-clause-kept g c =

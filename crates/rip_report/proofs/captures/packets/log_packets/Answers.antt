@@ -1,4 +1,4 @@
-use Rattle.std.proofs.Common.{◌≡◌, ◌∙◌, ◌+◌, ◌++◌, ◌∷◌, [], List, ap, arith, inl, inr, is_err, length, map, refl, sym, subst}
+use Rattle.std.proofs.Common.{◌≡◌, ◌∙◌, ◌+◌, ◌++◌, ◌∷◌, [], List, ap, arith, inl, inr, length, map, refl, sym, subst}
 use Rattle.std.proofs.lemmas.Bool.{false≢true}
 use Rattle.std.proofs.lemmas.List.{length-map}
 use Rattle.rip_log.proofs.WholeLemmas.{went_nowhere, went_on}
@@ -7,9 +7,9 @@ use Rattle.rip_capture.specs.Pcap.{Frame}
 use Rattle.rip_capture.specs.declared.error.CaptureCode.TheVariants.{Read}
 use Rattle.rip_report.specs.CapturePackets.{ended_at}
 use Rattle.rip_report.specs.CaptureText.{Carrier, IsCarrier, counted, omitted_of}
-use Rattle.rip_report.specs.declared.listing.Listing.{Listing}
+use Rattle.rip_report.specs.Outs.{Progress}
 use Rattle.rip_report.proofs.CaptureLemmas.{adds-packet, all-snoc, counts-snoc, ends-at, ends-by, far, stops-far, frames-snoc, has-room, line_count-snoc, never-unread, read-is_unread, unread-is_read}
-use Rattle.rip_report.proofs.ListingLemmas.{adds_none}
+use Rattle.rip_report.proofs.OutLemmas.{adds_none}
 use Rattle.rip_report.proofs.captures.packets.log_packets.Goals as goal
 
 pub packets-init : goal.packets-init
@@ -23,7 +23,7 @@ packets-init g c =
       counts = c.new.ensures c.args.authentication;
       lines = omega arith;
       few = c.requires.lines;
-      adds = adds_none g.K.Sink.taken g.K.Sink.broken c.args.out.now c.args.listing.now;
+      adds = adds_none c.args.out.now;
       went = went_nowhere S.given S.coming S.at_end (source_of c.args.reader.now);
       running = c.requires.running;
       marks = refl;
@@ -54,8 +54,7 @@ packets-preserved g c =
       counts = logs.counts ∙ ap (λ n. counted n p.carried (omitted_of c.args.authentication p.frame.bytes p.carried)) inv.counts ∙ sym (counts-snoc c.args.authentication cs p);
       lines = omega (arith, logs.lines, inv.lines, line_count-snoc cs p);
       few = logs.few;
-      adds = adds-packet g.K.Sink.taken g.K.Sink.broken c.args.out.now c.packets.out c.log_packet.new.out c.args.listing.now c.packets.listing c.log_packet.new.listing c.args.authentication
-          c.args.link.now cs p inv.adds logs.adds;
+      adds = adds-packet c.args.authentication c.args.link.now cs p inv.adds logs.adds;
       went = went_on S.given S.coming S.at_end (source_of c.args.reader.now) (source_of c.packets.reader) (source_of now) inv.went runs.moves.went;
       running = h.refused;
       marks = runs.moves.marks refl ∙ inv.marks;
@@ -84,12 +83,12 @@ returns-then-not-log_packet g c =
       carriers = inv.carriers;
       carry = inv.carry;
       few = omega (arith, inv.lines, inv.few);
-      adds = rw (lacks.listing, lacks.out) inv.adds;
+      adds = rw lacks.text inv.adds;
       ends = (omega (arith, inv.lines, lacks.many), inl (p, c.log_packet.ensures.carries, goes, lacks.line));
       went = went_on S.given S.coming S.at_end (source_of c.args.reader.now) (source_of c.packets.reader) (source_of now) inv.went runs.moves.went;
       unread = λ e. cc e;
       marks = λ e. runs.moves.marks refl ∙ inv.marks;
-      stops = λ sound failed. absurd (false≢true (sym (inv.sound sound) ∙ ap (λ (l : Listing). is_err l.wrote) (sym lacks.listing) ∙ failed));
+      stops = λ sound failed. absurd (false≢true (sym (inv.sound sound) ∙ ap (λ (t : Progress). t.failed) (sym lacks.text) ∙ failed));
     }
 
 pub returns-then-has_failed : goal.returns-then-has_failed
@@ -109,8 +108,7 @@ returns-then-has_failed g c =
       carriers = cs ++ p ∷ [];
       carry = all-snoc IsCarrier cs p inv.carry c.log_packet.ensures.carries;
       few = omega (arith, logs.lines, inv.lines, line_count-snoc cs p, logs.few);
-      adds = adds-packet g.K.Sink.taken g.K.Sink.broken c.args.out.now c.packets.out c.log_packet.new.out c.args.listing.now c.packets.listing c.log_packet.new.listing c.args.authentication
-          c.args.link.now cs p inv.adds logs.adds;
+      adds = adds-packet c.args.authentication c.args.link.now cs p inv.adds logs.adds;
       ends = (
         sym c.has_failed.ensures ∙ c.if-has_failed.true,
         (goes.front ++ goes.bytes, subst (λ (fs : List Frame). Stands S.given before now (goes.front ++ goes.bytes) fs) (sym (frames-snoc cs p)) goes.stands),
@@ -120,7 +118,7 @@ returns-then-has_failed g c =
       marks = λ e. runs.moves.marks refl ∙ inv.marks;
       stops = λ sound failed. (
         refl,
-        record { front = cs; last = p; split = refl; mid = c.packets.listing; out = c.packets.out; adds = inv.adds; sound = inv.sound sound },
+        record { front = cs; last = p; split = refl; mid = c.packets.out; adds = inv.adds; sound = inv.sound sound },
       );
     }
 
@@ -140,7 +138,7 @@ returns-in-Ok-None g c =
       carry = inv.carry;
       few = omega (arith, inv.lines, inv.few);
       adds = inv.adds;
-      ends = ends-at S.given S.at_end c.args.authentication before c.args.lines inv.carriers now c.packets.listing tally here inv.counts inv.lines inv.few;
+      ends = ends-at S.given S.at_end c.args.authentication before c.args.lines inv.carriers now c.packets.out tally here inv.counts inv.lines inv.few;
       went = went_on S.given S.coming S.at_end (source_of c.args.reader.now) (source_of c.packets.reader) (source_of now) inv.went runs.moves.went;
       unread = λ e. absurd (never-unread tally (position_of now) e);
       marks = λ e. runs.moves.marks refl ∙ inv.marks;
@@ -156,7 +154,7 @@ returns-in-Err g c =
     let runs = h.runs inv.running in
     let before = S.given (source_of c.args.reader.now) in
     let goes = runs.goes before inv.taken (map (λ c. c.frame) inv.carriers) inv.stands in
-    let ends = ends-by S.given S.at_end c.args.authentication before c.args.lines inv.carriers now c.packets.listing c.in-Err.error.code c.in-Err.error.at goes in
+    let ends = ends-by S.given S.at_end c.args.authentication before c.args.lines inv.carriers now c.packets.out c.in-Err.error.code c.in-Err.error.at goes in
     rw c.ended_by.ensures (record {
       carriers = inv.carriers;
       carry = inv.carry;

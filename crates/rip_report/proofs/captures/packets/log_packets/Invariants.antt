@@ -1,16 +1,15 @@
-use Rattle.std.proofs.Common.{◌≡◌, ◌+◌, ◌-◌, ◌^◌, ◌≤◌, List, ℕ, None, false, is_err, map}
+use Rattle.std.proofs.Common.{◌≡◌, ◌+◌, ◌-◌, ◌^◌, ◌≤◌, List, ℕ, None, false, map}
 use Rattle.std.specs.List.{AllByRecursion}
 use Rattle.rip_log.specs.Wholes.{Went}
 use Rattle.rip_log.specs.declared.limits.TheConstants.{MOST_LINES}
 use Rattle.rip_capture.specs.NextCall.{Stands, refusal_of, source_of}
 use Rattle.rip_report.specs.CaptureText.{Carrier, IsCarrier, counts_of, line_count, packet_lines}
-use Rattle.rip_report.specs.Listings.{Adds}
+use Rattle.rip_report.specs.Outs.{Adds}
 use Rattle.rip_report.proofs.captures.packets.log_packets.Given as goal
 
 abbrev pub invariant-packets : goal.invariant-packets
 invariant-packets g l =
     let S = g.R.Source in
-    let K = g.K.Sink in
     record {
       carriers : List Carrier;
       carry : AllByRecursion IsCarrier carriers;
@@ -19,11 +18,11 @@ invariant-packets g l =
       counts : l.tally.counts ≡ counts_of l.authentication carriers;
       lines : l.tally.lines ≡ l.lines + line_count carriers;
       few : l.tally.lines ≤ MOST_LINES;
-      adds : Adds K.taken K.broken l.fn.out l.out l.fn.listing l.listing (packet_lines l.authentication l.link carriers);
+      adds : Adds l.fn.out l.out (packet_lines l.authentication l.link carriers);
       went : Went S.given S.coming S.at_end (source_of l.fn.reader) (source_of l.reader);
       running : refusal_of l.reader ≡ None;
       marks : S.broken (source_of l.reader) ≡ S.broken (source_of l.fn.reader);
-      sound : is_err l.fn.listing.wrote ≡ false → is_err l.listing.wrote ≡ false;
+      sound : l.fn.out.failed ≡ false → l.out.failed ≡ false;
     }
 
 abbrev pub decreases-packets : goal.decreases-packets

@@ -1,12 +1,8 @@
-use Rattle.std.proofs.Common.{◌≡◌, ◌∙◌, [], refl}
-use Rattle.rip_report.specs.PlanText.{refused_plan}
-use Rattle.rip_report.proofs.FinishLemmas.{finished_prints}
-use Rattle.rip_report.proofs.SentLemmas.{Writes-same}
+use Rattle.std.proofs.Common.{refl}
+use Rattle.rip_report.proofs.EndLemmas.{ends_one}
+use Rattle.rip_report.proofs.OutLemmas.{adds_one}
 use Rattle.rip_report.proofs.refusal.plan.refuse_plan.Goals as goal
 
 pub returns-clause-prints : goal.returns-clause-prints
-returns-clause-prints g c =
-    let line = c.as_bytes.ensures ∙ c.fault_text.ensures in
-    let wrote = Writes-same g.K.Sink.taken g.K.Sink.broken c.args.out.now c.write_all.new.out c.write_all.result _ _ [] line c.write_all.ensures in
-    finished_prints (λ w. w ≡ refused_plan c.args.error)
-    (refused_plan c.args.error) g.K.Sink.taken g.K.Sink.broken c.args.out.now c.write_all.new.out c.write_all.result c.finish.result refl c.finish.ensures wrote
+returns-clause-prints g c = ends_one g.K.Sink.taken g.K.Sink.broken c.args.out c.finish_with.result.0 c.new-text.ensures.start c.new-text.ensures.text
+    (adds_one refl c.push_fault_line.ensures) c.finish_with.ensures.ends

@@ -39,5 +39,5 @@ pub returns : goal.returns
 returns g c = λ bytes is not.
     let log = c.new-log.result in
     let (text, lines, has, took, follows) = (c.run_log.ensures.prints bytes is).text not in
-    let is_log = log-of log.authentication log.lines lines log.status c.new-log.ensures.empty.so_far c.args.link.now bytes text c.run_log.result.1 (rw c.new-log.ensures.empty.count at has) in
-    (text, subst (λ (how : Authentication). LogOf how (record { link = c.args.link.now; bytes = bytes } ∷ []) text c.run_log.result.1) c.new-log.ensures.authentication is_log, took)
+    let is_log = log-of log.authentication log.lines lines log.status c.new-log.ensures.empty.so_far c.args.link.now bytes text c.run_log.result.2 (rw c.new-log.ensures.empty.count at has) in
+    (text, subst (λ (how : Authentication). LogOf how (record { link = c.args.link.now; bytes = bytes } ∷ []) text c.run_log.result.2) c.new-log.ensures.authentication is_log, took)

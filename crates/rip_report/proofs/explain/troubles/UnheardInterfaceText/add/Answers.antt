@@ -1,6 +1,5 @@
-use Rattle.std.proofs.Common.{[]}
 use Rattle.rip_report.specs.ExplainText.{is_heard, unheard}
-use Rattle.rip_report.proofs.ListingLemmas.{adds_none}
+use Rattle.rip_report.proofs.OutLemmas.{added_also, adds_nothing}
 use Rattle.rip_report.proofs.explain.troubles.UnheardInterfaceText.add.Goals as goal
 
 pub add_trouble-requires-clause-trouble : goal.add_trouble-requires-clause-trouble
@@ -10,8 +9,7 @@ add_trouble-requires-clause-trouble g c =
 
 pub returns-then-not-heard : goal.returns-then-not-heard
 returns-then-not-heard g c =
-    let more = c.add_trouble.ensures in
-    (more.0, unheard c.interface-own.result more.0 c.interface-own.ensures.exact (λ h. cc (h, c.heard.ensures, c.if-not-heard.true)) more.1, more.2)
+    added_also (λ text lines. unheard c.interface-own.result text c.interface-own.ensures.exact (λ h. cc (h, c.heard.ensures, c.if-not-heard.true)) lines) c.add_trouble.ensures
 
 pub returns-else-not-heard : goal.returns-else-not-heard
-returns-else-not-heard g c = ([], is_heard (cc (c.heard.ensures, c.if-not-heard.false)), adds_none g.K.Sink.taken g.K.Sink.broken c.args.out.now c.args.listing.now)
+returns-else-not-heard g c = adds_nothing (is_heard (cc (c.heard.ensures, c.if-not-heard.false)))
