@@ -3,7 +3,6 @@ use Rattle.std.proofs.Common.{◌≡◌, ◌≢◌, ℕ, ◌<◌, length, Bool, 
 use Rattle.std.specs.Prelude.{◌↔◌, IfOk}
 use Rattle.rip_plan.specs.Network.{Network}
 use Rattle.rip_plan.specs.Relations.{IsAttached, IsLawful}
-use Rattle.rip_log.specs.declared.device.Failed.{Failed}
 use Rattle.rip_table.specs.State.{State}
 use Rattle.rip_check.specs.Verdicts.{IsVerdict, ShowsTables, IsNextUnsettled}
 use Rattle.rip_check.specs.declared.verdict.Place2.{Place2}
@@ -13,7 +12,6 @@ use Rattle.rip_check.specs.declared.verdict.Verdict.{Verdict}
 use Rattle.rip_check.specs.declared.verdict.Verdict.TheVariants as verdicts
 use Rattle.rip_report.specs.Lines.{IsKnownReason}
 use Rattle.rip_report.specs.AuditText.{AnswersRightly, IsJudged, IsTroubleOf, ShowsPlainRightTables, UnsettledLines, VerdictText, a_settled, an_unclear, an_unsettled, settled_line, unclear_line, verdict_status}
-use Rattle.rip_report.specs.Finished.{finished}
 use Rattle.rip_report.specs.Written.{Written}
 use Rattle.rip_report.specs.declared.status.Status.{Status}
 use Rattle.rip_report.specs.declared.status.Status.TheVariants.{Refused, Settled, Unsettled, Unclear as IsUnclear}
@@ -98,12 +96,6 @@ judged n s v j = record {
     λ h. ap verdict_status (j.no_tables.1 h).1,
   );
 }
-
--- the end of a run that wrote a verdict
-pub ended_judged : (n : Network) (s : State) (status : Status) (r : Result (Unit {0}) Failed) (outcome : Result Status RunError) → outcome ≡ finished r status → IsJudged n s status →
-    IfOk outcome (λ status. IsJudged n s status)
-ended_judged n s status (Ok done) outcome is h = rw is h
-ended_judged n s status (Err e) outcome is h = rw is tt
 
 -- what each verdict writes
 pub settled_told : (n : Network) (s : State) (all : Bool) (v : Verdict) → v ≡ verdicts.Settled → IsVerdict n (told n s) v →

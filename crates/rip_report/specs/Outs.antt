@@ -12,10 +12,11 @@ pub record Mark : Type 0 where
 abbrev pub mark_of : {K : Type 0} → (K → Taken) → (K → Bool) → K → Mark
 mark_of taken broken k = record { taken = taken k; broken = broken k }
 
--- how far a text has come: how the sink stood before it, all that was added, and whether a write
--- has failed
+-- how far a text has come: how the sink stood before it and stands now, all that was added, and
+-- whether a write has failed
 pub record Progress : Type 0 where
   pub start : Mark
+  pub now : Mark
   pub text : List ℕ
   pub failed : Bool
 

@@ -7,6 +7,7 @@ ghost use Rattle.rip_table.specs.State.{Fits, State};
 ghost use Rattle.rip_check.specs.Marks.{AreUnsettled};
 ghost use Rattle.rip_check.specs.Verdicts.{IsVerdict, IsNextUnsettled};
 ghost use Rattle.rip_report.specs.AuditText.{AnswersRightly, AuditText, FailingText, IsJudged, ShowsPlainRightTables, UnsettledLine, UnsettledLines, VerdictText, verdict_status};
+ghost use Rattle.rip_report.specs.Finished.{Tells};
 ghost use Rattle.rip_report.specs.Given.{IsGiven};
 ghost use Rattle.rip_report.specs.Outs.{AddsOne};
 ghost use Rattle.rip_report.specs.ReportText.{AreRead, IsAccepted};
@@ -125,31 +126,24 @@ fn places_of<T: MetricTable>(
     }
 }
 
-/// Judges a table and writes the verdict.
-fn audit_table<T: MetricTable, K: Sink>(
+/// Judges a table and adds the verdict.
+fn add_audit<T: MetricTable, K: Sink>(
     alloc: Global,
+    out: &mut Out<K>,
     plan: &Plan,
     table: &T,
     all: bool,
-    out: K,
-) -> (K, Result<Status, RunError>)
+) -> Result<Status, AllocError>
     requires { Fits plan.now (T.state table.now) }
-    ensures prints { Prints K.taken K.broken out result.0 result.1
-        (VerdictText plan.now (T.state table.now) all) }
-    ensures read { result.1 ≢ Err RunError.Read }
-    ensures memory { result.1 ≡ Err RunError.Memory →
+    ensures tells { Tells out.old out.new result (VerdictText plan.now (T.state table.now) all) }
+    ensures memory { is_err result ≡ true →
         (all ≡ true) × IsJudged plan.now (T.state table.now) Status.Unsettled }
-    ensures judged { IfOk result.1 (IsJudged plan.now (T.state table.now)) }
+    ensures judged { IfOk result (IsJudged plan.now (T.state table.now)) }
 {
     let verdict = judge(plan, table);
-    match places_of(alloc, plan, table, all, &verdict) {
-        Ok(places) => {
-            let mut text = Out::new(out);
-            add_verdict(&mut text, plan, table, all, &places, &verdict);
-            text.finish_with(status_of(&verdict))
-        }
-        Err(_) => (out, Err(RunError::Memory)),
-    }
+    let places = places_of(alloc, plan, table, all, &verdict)?;
+    add_verdict(out, plan, table, all, &places, &verdict);
+    Ok(status_of(&verdict))
 }
 
 /// The command `audit`, for the first place that does not hold or for all.
@@ -163,14 +157,14 @@ impl Report for Audit {
 
     ghost means = { λ audit n s. IsJudged n s };
 
-    fn write<T: MetricTable, K: Sink>(
+    fn add<T: MetricTable, K: Sink>(
         &self,
         alloc: Global,
+        out: &mut Out<K>,
         plan: &Plan,
         table: &T,
-        out: K,
-    ) -> (K, Result<Status, RunError>) {
-        audit_table(alloc, plan, table, self.all, out)
+    ) -> Result<Status, AllocError> {
+        add_audit(alloc, out, plan, table, self.all)
     }
 }
 

@@ -4,6 +4,7 @@ ghost use Rattle.std.specs.Prelude.{◌≡◌, ◌≢◌, [], ℕ, Err, IfOk, Li
 ghost use Rattle.rip_plan.specs.Network.{Network};
 ghost use Rattle.rip_table.specs.Events.{EventAt};
 ghost use Rattle.rip_table.specs.State.{Fits, State, new_state};
+ghost use Rattle.rip_report.specs.Finished.{Tells};
 ghost use Rattle.rip_report.specs.Given.{IsGiven};
 ghost use Rattle.rip_report.specs.Hearings.{EventsOf, EventsText, OfAccepted};
 ghost use Rattle.rip_report.specs.ReportText.{IsAccepted};
@@ -13,36 +14,57 @@ ghost use Rattle.rip_report.specs.Written.{Written};
 
 use crate::laws::accepted_logs;
 use crate::log::hear_log;
+use crate::output::Out;
 use crate::refusal::refuse_plan;
 use crate::status::{RunError, Status};
 use rip_log::{Sink, Source};
 use rip_plan::Plan;
 use rip_plan::laws::{one_plan, well_formed_texts};
 use rip_table::{Counts, GridTable, Listener, MetricTable};
-use std::alloc::Global;
+use std::alloc::{AllocError, Global};
 use std::hash::BuildHasher;
 
-/// A command that reads a plan and a log to its end: what it writes of the table, and of what a
+/// A command that reads a plan and a log to its end: what it tells of the table, and of what a
 /// listener has heard.
 pub(crate) trait EventReport<L: Listener> {
-    // The texts that it may write where the lines of a log come to these events and this table.
+    // The texts that it may tell where the lines of a log come to these events and this table.
     ghost is_text: { Self → Network → List EventAt → State → Written → Type 0 };
 
-    /// Writes what there is to say of a table, and of what a listener has heard.
-    fn write<T: MetricTable, K: Sink>(
+    /// Adds what there is to say of a table, and of what a listener has heard; or nothing where a
+    /// growth is refused.
+    fn add<T: MetricTable, K: Sink>(
         &self,
         alloc: Global,
+        out: &mut Out<K>,
         plan: &Plan,
         table: &T,
         listener: &L,
-        out: K,
-    ) -> (K, Result<Status, RunError>)
+    ) -> Result<Status, AllocError>
         requires fits { Fits plan.now (T.state table.now) }
         requires suits { L.suits plan.now listener.now }
-        ensures prints { (events : List EventAt) → L.holds listener.now events →
-            Prints K.taken K.broken out result.0 result.1
-            (is_text self.now plan.now events (T.state table.now)) }
-        ensures read { result.1 ≢ Err RunError.Read };
+        ensures { (events : List EventAt) → L.holds listener.now events →
+            Tells out.old out.new result (is_text self.now plan.now events (T.state table.now)) };
+}
+
+/// Writes what a command tells of a table, and of what a listener has heard.
+fn write_events<C: EventReport<L>, L: Listener, T: MetricTable, K: Sink>(
+    alloc: Global,
+    command: &C,
+    plan: &Plan,
+    table: &T,
+    listener: &L,
+    out: K,
+) -> (K, Result<Status, RunError>)
+    requires fits { Fits plan.now (T.state table.now) }
+    requires suits { L.suits plan.now listener.now }
+    ensures prints { (events : List EventAt) → L.holds listener.now events →
+        Prints K.taken K.broken out result.0 result.1
+        (C.is_text command.now plan.now events (T.state table.now)) }
+    ensures read { result.1 ≢ Err RunError.Read }
+{
+    let mut text = Out::new(out);
+    let told = command.add(alloc, &mut text, plan, table, listener);
+    text.answer(told)
 }
 
 /// Writes the report on a log by its plan. The table is new, and the listener has heard nothing.
@@ -67,7 +89,7 @@ fn report_to<C: EventReport<L>, L: Listener, R: Source, K: Sink, T: MetricTable>
     let (source, heard) = hear_log(alloc, plan, log, table, listener);
     match heard {
         Ok(()) => {
-            let (out, answer) = command.write(alloc, plan, table, listener, out);
+            let (out, answer) = write_events(alloc, command, plan, table, listener, out);
             (source, out, answer)
         }
         Err(error) => (source, out, Err(error)),

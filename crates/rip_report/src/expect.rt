@@ -10,15 +10,16 @@ ghost use Rattle.rip_report.specs.Outs.{Adds, AddsOne};
 ghost use Rattle.rip_report.specs.PlanText.{IsNoText};
 ghost use Rattle.rip_report.specs.Sent.{Prints};
 
+use crate::loops::{NumberText, add_below};
 use crate::names::{push_counts, push_router, push_way};
 use crate::output::Out;
-use crate::refusal::refuse_plan;
+use crate::report::{PlanReport, report_plan};
 use crate::status::{RunError, Status};
 use rip_check::{Expected, Way};
 use rip_log::Sink;
 use rip_plan::Plan;
 use rip_wire::Metric;
-use std::alloc::Global;
+use std::alloc::{AllocError, Global};
 
 /// Adds how many pairs of a router and a prefix are unreachable, where some are.
 fn push_unreachable<K: Sink>(out: &mut Out<K>, pairs: usize)
@@ -67,7 +68,7 @@ fn push_route_line<K: Sink>(
     out.end();
 }
 
-/// Adds the line of a way, where it is right. (Why so many arguments: DECISIONS.md.)
+/// Adds the line of a way, where it is right.
 fn add_way<K: Sink>(
     out: &mut Out<K>,
     plan: &Plan,
@@ -127,35 +128,70 @@ fn add_pair<K: Sink>(
     add_way(out, plan, expected, router, prefix, Way::Unreachable);
 }
 
-/// Adds the lines of a router.
-fn add_router<K: Sink>(out: &mut Out<K>, plan: &Plan, expected: &Expected, router: usize)
-    requires expected { AreExpected plan.now expected.now }
-    requires router { router < length plan.now.routers }
-    ensures { AddsOne out.old out.new (RouterLines plan.now router) }
-{
-    for prefix in 0..plan.prefixes() {
-        add_pair(out, plan, expected, router, prefix);
+/// The right routes of a router, by prefix.
+#[derive(Clone, Copy)]
+struct OfRouter<'a> {
+    plan: &'a Plan,
+    expected: &'a Expected,
+    router: usize,
+}
+
+impl NumberText for OfRouter<'_> {
+    ghost is_for = { λ of p. AreExpected of.plan.now of.expected.now
+        × (of.router < length of.plan.now.routers) × (p < length of.plan.now.prefixes) };
+
+    ghost is_text = { λ of p. PairLines of.plan.now of.router p };
+
+    fn add<K: Sink>(&self, out: &mut Out<K>, prefix: usize) {
+        add_pair(out, self.plan, self.expected, self.router, prefix);
     }
 }
 
-/// Adds the lines of all routers.
-fn add_routers<K: Sink>(out: &mut Out<K>, plan: &Plan, expected: &Expected)
-    requires { AreExpected plan.now expected.now }
-    ensures { AddsOne out.old out.new (TextsBelow (RouterLines plan.now) (length plan.now.routers)) }
-{
-    for router in 0..plan.routers() {
-        add_router(out, plan, expected, router);
+/// The right routes, by router.
+#[derive(Clone, Copy)]
+struct OfRouters<'a> {
+    plan: &'a Plan,
+    expected: &'a Expected,
+}
+
+impl NumberText for OfRouters<'_> {
+    ghost is_for = { λ of r. AreExpected of.plan.now of.expected.now
+        × (r < length of.plan.now.routers) };
+
+    ghost is_text = { λ of r. RouterLines of.plan.now r };
+
+    fn add<K: Sink>(&self, out: &mut Out<K>, router: usize) {
+        let (plan, expected) = (self.plan, self.expected);
+        add_below(
+            out,
+            &OfRouter {
+                plan,
+                expected,
+                router,
+            },
+            plan.prefixes(),
+        );
     }
 }
 
-/// Adds the right routes of a plan: the counts, and a line for each.
-fn add_expected<K: Sink>(out: &mut Out<K>, plan: &Plan, expected: &Expected)
-    requires { AreExpected plan.now expected.now }
-    ensures { AddsOne out.old out.new (λ text.
-        ExpectedRoutes plan.now (record { text = text; status = Status.Done })) }
-{
-    push_counts_line(out, plan, expected.unreachable(plan));
-    add_routers(out, plan, expected);
+/// The command `expect`.
+#[derive(Clone, Copy)]
+struct Expect;
+
+impl PlanReport for Expect {
+    ghost is_text = { λ _. ExpectedRoutes };
+
+    fn add<K: Sink>(
+        &self,
+        alloc: Global,
+        out: &mut Out<K>,
+        plan: &Plan,
+    ) -> Result<Status, AllocError> {
+        let expected = &Expected::find(alloc, plan)?;
+        push_counts_line(out, plan, expected.unreachable(plan));
+        add_below(out, &OfRouters { plan, expected }, plan.routers());
+        Ok(Status::Done)
+    }
 }
 
 /// Prints the right routes of the plan in a TOML document, or the document's first fault: what the
@@ -168,16 +204,5 @@ pub fn run_expect<K: Sink>(alloc: Global, plan: &[u8], out: K) -> (K, Result<Sta
     // Too many bytes, or bytes that are not UTF-8, never give Memory.
     ensures no_text { IsNoText plan.now → result.1 ≢ Err RunError.Memory }
 {
-    let plan = match Plan::read(alloc, plan) {
-        Ok(plan) => plan,
-        Err(error) => return refuse_plan(error, out),
-    };
-    match Expected::find(alloc, &plan) {
-        Ok(expected) => {
-            let mut text = Out::new(out);
-            add_expected(&mut text, &plan, &expected);
-            text.finish_with(Status::Done)
-        }
-        Err(_) => (out, Err(RunError::Memory)),
-    }
+    report_plan(alloc, &Expect, plan, out)
 }

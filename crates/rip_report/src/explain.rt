@@ -4,9 +4,10 @@ mod lines;
 mod places;
 mod troubles;
 
-ghost use Rattle.std.specs.Prelude.{◌≡◌, ◌≢◌, ◌↔◌, ℕ, Bool, List, Err, IfOk, None, false, true, Some};
+ghost use Rattle.std.specs.Prelude.{◌≡◌, ◌↔◌, ℕ, Bool, List, IfOk, None, false, true, Some};
 ghost use Rattle.rip_plan.specs.Network.{Network};
 ghost use Rattle.rip_plan.specs.Relations.{IsPlain};
+ghost use Rattle.rip_report.specs.Finished.{Tells};
 ghost use Rattle.rip_report.specs.Given.{IsGiven};
 ghost use Rattle.rip_table.specs.State.{Fits, State};
 ghost use Rattle.rip_check.specs.Expected.{AreExpected};
@@ -14,8 +15,9 @@ ghost use Rattle.rip_check.specs.Firsts.{IsFirstTrouble};
 ghost use Rattle.rip_check.specs.Laws.{OneIsShown, ShowsRightTables};
 ghost use Rattle.rip_check.specs.Verdicts.{IsNextUnsettled, ShowsTables};
 ghost use Rattle.rip_check.specs.Told.{told};
-ghost use Rattle.rip_report.specs.AuditText.{AnswersRightly, IsJudged, ShowsPlainRightTables};
-ghost use Rattle.rip_report.specs.ExplainText.{BeginsWithVerdict, ExplainText, ExplainsAll, UnreachableLine};
+ghost use Rattle.rip_report.specs.AuditText.{AllFailing, AnswersRightly, IsJudged, ShowsPlainRightTables};
+ghost use Rattle.rip_report.specs.ExplainText.{BeginsWithVerdict, ExplainText, ExplainsAll, PlaceLines, UnreachableLine};
+ghost use Rattle.rip_report.specs.Outs.{AddsOne};
 ghost use Rattle.rip_report.specs.ReportText.{AreRead, IsAccepted, ReportText};
 ghost use Rattle.rip_report.specs.Runs.{Reads, RefusesPlan, StopsAtRefusal};
 ghost use Rattle.rip_report.specs.Sent.{Prints, WentOut};
@@ -32,7 +34,7 @@ use rip_check::{Case, Expected, Place2, Unclear, Unsettled, Verdict, judge, leas
 use rip_log::{Sink, Source};
 use rip_plan::Plan;
 use rip_table::MetricTable;
-use std::alloc::Global;
+use std::alloc::{AllocError, Global};
 use std::hash::BuildHasher;
 use troubles::add_unclear;
 
@@ -56,136 +58,99 @@ impl PairText for Unreachable {
     }
 }
 
-/// Writes that a network has settled, and which planned prefixes its routers cannot reach.
-fn explain_settled<T: MetricTable, K: Sink>(
+/// Adds that a network has settled, and which planned prefixes its routers cannot reach.
+fn add_settled<T: MetricTable, K: Sink>(
     alloc: Global,
+    out: &mut Out<K>,
     plan: &Plan,
     table: &T,
-    out: K,
-) -> (K, Result<Status, RunError>)
+) -> Result<Status, AllocError>
     requires fits { Fits plan.now (T.state table.now) }
     requires right { ShowsRightTables plan.now (told plan.now (T.state table.now)) }
-    ensures prints { (all : Bool) → Prints K.taken K.broken out result.0 result.1
-        (ExplainText plan.now (T.state table.now) all) }
-    ensures read { result.1 ≢ Err RunError.Read }
+    ensures { (all : Bool) →
+        Tells out.old out.new result (ExplainText plan.now (T.state table.now) all) }
 {
-    let Ok(expected) = Expected::find(alloc, plan) else {
-        return (out, Err(RunError::Memory));
-    };
-    let mut text = Out::new(out);
-    push_settled_line(&mut text, plan, table);
-    add_pairs(&mut text, &Unreachable { expected }, plan, table);
-    text.finish_with(Status::Settled)
+    let expected = Expected::find(alloc, plan)?;
+    push_settled_line(out, plan, table);
+    add_pairs(out, &Unreachable { expected }, plan, table);
+    Ok(Status::Settled)
 }
 
-/// Writes the first place that does not hold, and what it comes from.
-fn explain_place<T: MetricTable, K: Sink>(
+/// Adds the first place that does not hold, and what it comes from.
+fn add_first_place<T: MetricTable, K: Sink>(
+    out: &mut Out<K>,
     plan: &Plan,
     table: &T,
     place: &Place2,
-    out: K,
-) -> (K, Result<Status, RunError>)
+)
     requires fits { Fits plan.now (T.state table.now) }
-    requires shows { ShowsTables plan.now (told plan.now (T.state table.now)) }
     requires first { IsNextUnsettled plan.now (told plan.now (T.state table.now)) None place.now }
-    ensures prints { Prints K.taken K.broken out result.0 result.1
-        (ExplainText plan.now (T.state table.now) false) }
-    ensures read { result.1 ≢ Err RunError.Read }
+    ensures { AddsOne out.old out.new (PlaceLines plan.now (T.state table.now) place.now) }
 {
     plan.lawful();
     let least = least_metric(plan, place.router, place.prefix);
-    let mut text = Out::new(out);
-    add_place(&mut text, plan, table, place, least);
-    text.finish_with(Status::Unsettled)
+    add_place(out, plan, table, place, least);
 }
 
-/// Writes all places that do not hold, and what they come from.
-fn explain_places<T: MetricTable, K: Sink>(
+/// Adds all places that do not hold, and what they come from.
+fn add_places<T: MetricTable, K: Sink>(
     alloc: Global,
+    out: &mut Out<K>,
     plan: &Plan,
     table: &T,
-    out: K,
-) -> (K, Result<Status, RunError>)
-    requires fits { Fits plan.now (T.state table.now) }
-    requires shows { ShowsTables plan.now (told plan.now (T.state table.now)) }
-    requires first { (place : Place2)
-        × IsNextUnsettled plan.now (told plan.now (T.state table.now)) None place }
-    ensures prints { Prints K.taken K.broken out result.0 result.1
-        (ExplainText plan.now (T.state table.now) true) }
-    ensures read { result.1 ≢ Err RunError.Read }
+) -> Result<Status, AllocError>
+    requires { Fits plan.now (T.state table.now) }
+    ensures { Tells out.old out.new result (λ w.
+        AllFailing plan.now (T.state table.now) (PlaceLines plan.now (T.state table.now)) w.text
+        × (w.status ≡ Status.Unsettled)) }
 {
-    let Ok(places) = Unsettled::find(alloc, plan, table) else {
-        return (out, Err(RunError::Memory));
-    };
-    let Ok(expected) = Expected::find(alloc, plan) else {
-        return (out, Err(RunError::Memory));
-    };
-    let mut text = Out::new(out);
-    add_pairs(&mut text, &FailingPlaces { places, expected }, plan, table);
-    text.finish_with(Status::Unsettled)
+    let places = Unsettled::find(alloc, plan, table)?;
+    let expected = Expected::find(alloc, plan)?;
+    add_pairs(out, &FailingPlaces { places, expected }, plan, table);
+    Ok(Status::Unsettled)
 }
 
-/// Writes the first place that does not hold, or all, and what they come from.
-fn explain_unsettled<T: MetricTable, K: Sink>(
+/// Adds the first place that does not hold, or all, and what they come from.
+fn add_unsettled<T: MetricTable, K: Sink>(
     alloc: Global,
+    out: &mut Out<K>,
     plan: &Plan,
     table: &T,
     all: bool,
     first: &Place2,
-    out: K,
-) -> (K, Result<Status, RunError>)
+) -> Result<Status, AllocError>
     requires fits { Fits plan.now (T.state table.now) }
     requires shows { ShowsTables plan.now (told plan.now (T.state table.now)) }
     requires first { IsNextUnsettled plan.now (told plan.now (T.state table.now)) None first.now }
-    ensures prints { Prints K.taken K.broken out result.0 result.1
-        (ExplainText plan.now (T.state table.now) all) }
-    ensures read { result.1 ≢ Err RunError.Read }
+    ensures { Tells out.old out.new result (ExplainText plan.now (T.state table.now) all) }
 {
     if all {
-        explain_places(alloc, plan, table, out)
-    } else {
-        explain_place(plan, table, first, out)
+        return add_places(alloc, out, plan, table);
     }
+    add_first_place(out, plan, table, first);
+    Ok(Status::Unsettled)
 }
 
-/// Writes the first trouble, or all of its kind, and what they come from.
-fn explain_unclear<T: MetricTable, K: Sink>(
+/// Judges a table, and adds the verdict and what it comes from.
+fn add_explained<T: MetricTable, K: Sink>(
+    alloc: Global,
+    out: &mut Out<K>,
     plan: &Plan,
     table: &T,
     all: bool,
-    first: &Unclear,
-    out: K,
-) -> (K, Result<Status, RunError>)
-    requires fits { Fits plan.now (T.state table.now) }
-    requires first { IsFirstTrouble plan.now (told plan.now (T.state table.now)) first.now }
-    ensures prints { Prints K.taken K.broken out result.0 result.1
-        (ExplainText plan.now (T.state table.now) all) }
-    ensures read { result.1 ≢ Err RunError.Read }
+) -> Result<Status, AllocError>
+    requires { Fits plan.now (T.state table.now) }
+    ensures tells { Tells out.old out.new result (ExplainText plan.now (T.state table.now) all) }
+    ensures judged { IfOk result (IsJudged plan.now (T.state table.now)) }
 {
     plan.lawful();
-    let mut text = Out::new(out);
-    add_unclear(&mut text, plan, table, all, first);
-    text.finish_with(Status::Unclear)
-}
-
-/// Judges a table, and writes the verdict and what it comes from.
-fn explain_table<T: MetricTable, K: Sink>(
-    alloc: Global,
-    plan: &Plan,
-    table: &T,
-    all: bool,
-    out: K,
-) -> (K, Result<Status, RunError>)
-    requires { Fits plan.now (T.state table.now) }
-    ensures prints { Prints K.taken K.broken out result.0 result.1
-        (ExplainText plan.now (T.state table.now) all) }
-    ensures read { result.1 ≢ Err RunError.Read }
-    ensures judged { IfOk result.1 (IsJudged plan.now (T.state table.now)) }
-{
     match judge(plan, table) {
-        Verdict::Settled => explain_settled(alloc, plan, table, out),
-        Verdict::Unsettled(place) => explain_unsettled(alloc, plan, table, all, &place, out),
-        Verdict::Unclear(trouble) => explain_unclear(plan, table, all, &trouble, out),
+        Verdict::Settled => add_settled(alloc, out, plan, table),
+        Verdict::Unsettled(place) => add_unsettled(alloc, out, plan, table, all, &place),
+        Verdict::Unclear(trouble) => {
+            add_unclear(out, plan, table, all, &trouble);
+            Ok(Status::Unclear)
+        }
     }
 }
 
@@ -200,14 +165,14 @@ impl Report for Explain {
 
     ghost means = { λ explain n s. IsJudged n s };
 
-    fn write<T: MetricTable, K: Sink>(
+    fn add<T: MetricTable, K: Sink>(
         &self,
         alloc: Global,
+        out: &mut Out<K>,
         plan: &Plan,
         table: &T,
-        out: K,
-    ) -> (K, Result<Status, RunError>) {
-        explain_table(alloc, plan, table, self.all, out)
+    ) -> Result<Status, AllocError> {
+        add_explained(alloc, out, plan, table, self.all)
     }
 }
 

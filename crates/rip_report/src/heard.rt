@@ -6,7 +6,7 @@ mod nobody;
 mod strangers;
 mod who;
 
-ghost use Rattle.std.specs.Prelude.{◌≡◌, ◌≢◌, ℕ, List, Err, length};
+ghost use Rattle.std.specs.Prelude.{◌≡◌, ℕ, List, length};
 ghost use Rattle.rip_report.specs.Given.{IsGiven};
 ghost use Rattle.rip_report.specs.Hearings.{HeardOf};
 ghost use Rattle.rip_table.specs.Events.{EventAt};
@@ -28,7 +28,7 @@ use crate::status::{RunError, Status};
 use rip_log::{Sink, Source};
 use rip_plan::Plan;
 use rip_table::{Counts, MetricTable, Tallies};
-use std::alloc::Global;
+use std::alloc::{AllocError, Global};
 use std::hash::BuildHasher;
 
 /// How many interfaces were heard.
@@ -92,21 +92,19 @@ fn add_lines<S: BuildHasher + Drop, K: Sink>(
     push_counted_line(out, "other requests ", tallies.other_requests());
 }
 
-/// Writes who is in a log, and all that is refused, by what its lines came to.
-pub(crate) fn write_heard<S: BuildHasher + Drop, K: Sink>(
+/// Adds who is in a log, and all that is refused, by what its lines came to.
+fn add_heard<S: BuildHasher + Drop, K: Sink>(
+    out: &mut Out<K>,
     plan: &Plan,
     tallies: &Tallies<S>,
-    out: K,
-) -> (K, Result<Status, RunError>)
+) -> Status
     requires { interfaces_of tallies.now ≡ length plan.now.interfaces }
-    ensures prints { (events : List EventAt) → HasHeard tallies.now events →
-        Prints K.taken K.broken out result.0 result.1 (HeardText plan.now events) }
-    ensures read { result.1 ≢ Err RunError.Read }
+    ensures { (events : List EventAt) → HasHeard tallies.now events → AddsOne out.old out.new
+        (λ text. HeardText plan.now events (record { text = text; status = result })) }
 {
     let heard = count_heard(plan, tallies);
-    let mut text = Out::new(out);
-    add_lines(&mut text, plan, tallies, heard);
-    text.finish_with(status_of(heard, plan.interfaces(), tallies.counts()))
+    add_lines(out, plan, tallies, heard);
+    status_of(heard, plan.interfaces(), tallies.counts())
 }
 
 /// The command `heard`.
@@ -116,15 +114,15 @@ struct Heard;
 impl<S: BuildHasher + Drop> EventReport<Tallies<S>> for Heard {
     ghost is_text = { λ _ n events s. HeardText n events };
 
-    fn write<T: MetricTable, K: Sink>(
+    fn add<T: MetricTable, K: Sink>(
         &self,
         _: Global,
+        out: &mut Out<K>,
         plan: &Plan,
         _: &T,
         tallies: &Tallies<S>,
-        out: K,
-    ) -> (K, Result<Status, RunError>) {
-        write_heard(plan, tallies, out)
+    ) -> Result<Status, AllocError> {
+        Ok(add_heard(out, plan, tallies))
     }
 }
 

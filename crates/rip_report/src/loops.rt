@@ -1,4 +1,5 @@
-//! What is written of each interface, or of each router and prefix, one after the other.
+//! What is written of each of many, one after the other: by their numbers, or of routers and
+//! prefixes.
 
 ghost use Rattle.std.specs.Prelude.{◌<◌, List, length, slice_index, ℕ};
 ghost use Rattle.rip_plan.specs.Network.{Network};
@@ -13,22 +14,22 @@ use rip_log::Sink;
 use rip_plan::Plan;
 use rip_table::MetricTable;
 
-/// What is written of an interface, by its number.
-pub(crate) trait InterfaceText {
-    // Which interfaces it is for.
+/// What is written of one of many, by its number: of an interface, a router or a prefix.
+pub(crate) trait NumberText {
+    // Which numbers it is for.
     ghost is_for: { Self → ℕ → Type 0 };
 
-    // The texts that an interface may have.
+    // The texts that a number may have.
     ghost is_text: { Self → ℕ → List ℕ → Type 0 };
 
-    /// Adds the text of an interface.
+    /// Adds the text of a number.
     fn add<K: Sink>(&self, out: &mut Out<K>, number: usize)
         requires { is_for self.now number }
         ensures { AddsOne out.old out.new (is_text self.now number) };
 }
 
-/// Adds the texts of the interfaces below a number.
-pub(crate) fn add_interfaces<E: InterfaceText, K: Sink>(out: &mut Out<K>, texts: &E, count: usize)
+/// Adds the texts of the numbers below another.
+pub(crate) fn add_below<E: NumberText, K: Sink>(out: &mut Out<K>, texts: &E, count: usize)
     requires { (i : ℕ) → i < count → E.is_for texts.now i }
     ensures { AddsOne out.old out.new (TextsBelow (E.is_text texts.now) count) }
 {
@@ -37,8 +38,8 @@ pub(crate) fn add_interfaces<E: InterfaceText, K: Sink>(out: &mut Out<K>, texts:
     }
 }
 
-/// Adds the texts of the interfaces of a list.
-pub(crate) fn add_listed<E: InterfaceText, K: Sink>(out: &mut Out<K>, texts: &E, numbers: &[usize])
+/// Adds the texts of the numbers of a list.
+pub(crate) fn add_listed<E: NumberText, K: Sink>(out: &mut Out<K>, texts: &E, numbers: &[usize])
     requires { (k : ℕ) → k < length numbers.now →
         E.is_for texts.now (slice_index numbers.now k) }
     ensures { AddsOne out.old out.new (TextsOf (E.is_text texts.now) numbers.now) }

@@ -1,7 +1,7 @@
 //! Text on its way to a sink.
 
 ghost use Rattle.std.specs.Prelude.{◌≡◌, ◌≢◌, ◌∷◌, ◌++◌, [], true, false, decimal, is_err, Err};
-ghost use Rattle.rip_report.specs.Finished.{Ends};
+ghost use Rattle.rip_report.specs.Finished.{Answers, Ends};
 ghost use Rattle.rip_report.specs.Names.{numbered};
 ghost use Rattle.rip_report.specs.Outs.{Adds, Stands, mark_of};
 ghost use Rattle.rip_wire.specs.Address.{address_text};
@@ -13,6 +13,7 @@ use crate::status::{RunError, Status};
 use itoa::Buffer;
 use rip_log::{Failed, History, Sink};
 use rip_wire::{Address, Metric, Prefix};
+use std::alloc::AllocError;
 use std::marker::Model;
 
 /// Room for the text of an address.
@@ -42,6 +43,7 @@ impl<K: Sink> Model for Out<K> {
 
     ghost view = { λ o. record {
       start = mark_of K.taken K.broken o.start.value;
+      now = mark_of K.taken K.broken o.sink;
       text = noted o.added.outcomes;
       failed = is_err o.wrote;
     } };
@@ -54,6 +56,7 @@ impl<K: Sink> Out<K> {
     /// No text yet, on its way to this sink.
     pub(crate) fn new(sink: K) -> Out<K>
         ensures start { result.start ≡ mark_of K.taken K.broken sink }
+        ensures now { result.now ≡ mark_of K.taken K.broken sink }
         ensures text { result.text ≡ [] }
         ensures failed { result.failed ≡ false }
     {
@@ -172,6 +175,25 @@ impl<K: Sink> Out<K> {
         match self.finish() {
             (sink, Ok(())) => (sink, Ok(status)),
             (sink, Err(Failed)) => (sink, Err(RunError::Write)),
+        }
+    }
+
+    /// The sink, where no text is to go out.
+    fn take_back(self) -> K
+        ensures { mark_of K.taken K.broken result ≡ self.now }
+    {
+        self.sink
+    }
+
+    /// Ends a run by what a command has told: with its status, or with Memory where it told
+    /// nothing.
+    pub(crate) fn answer(self, told: Result<Status, AllocError>) -> (K, Result<Status, RunError>)
+        ensures answers { Answers self told (mark_of K.taken K.broken result.0) result.1 }
+        ensures read { result.1 ≢ Err RunError.Read }
+    {
+        match told {
+            Ok(status) => self.finish_with(status),
+            Err(_) => (self.take_back(), Err(RunError::Memory)),
         }
     }
 }

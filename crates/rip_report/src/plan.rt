@@ -1,6 +1,6 @@
 //! The command `plan`: the parts of a plan.
 
-ghost use Rattle.std.specs.Prelude.{◌≢◌, ◌<◌, Err, IfSome, length};
+ghost use Rattle.std.specs.Prelude.{◌≡◌, ◌≢◌, ◌<◌, Err, IfSome, length};
 ghost use Rattle.std.specs.List.{flat_map};
 ghost use Rattle.rip_report.specs.Outs.{Adds};
 ghost use Rattle.rip_report.specs.PlanText.{IsNoText, IsSeat, PlanText, address_part, also_text, attached_text, counts_line, direct_text, gateway_text, interface_line, interface_lines, interface_text, kept_text, place_line, poison_text, seat_text, shown_plan};
@@ -8,12 +8,12 @@ ghost use Rattle.rip_report.specs.Sent.{Prints};
 
 use crate::names::{push_link, push_router};
 use crate::output::Out;
-use crate::refusal::refuse_plan;
+use crate::report::{PlanReport, report_plan};
 use crate::status::{RunError, Status};
 use rip_log::Sink;
 use rip_plan::{Interface, Place, Plan, Seat};
 use rip_wire::Address;
-use std::alloc::Global;
+use std::alloc::{AllocError, Global};
 
 /// Adds the line of the counts.
 #[tactic(auto, unfolding(crate::specs::PlanText::counts_line))]
@@ -209,6 +209,19 @@ fn push_plan<K: Sink>(out: &mut Out<K>, plan: &Plan)
     push_places(out, plan);
 }
 
+/// The command `plan`.
+#[derive(Clone, Copy)]
+struct ShowPlan;
+
+impl PlanReport for ShowPlan {
+    ghost is_text = { λ _ n w. w ≡ shown_plan n };
+
+    fn add<K: Sink>(&self, _: Global, out: &mut Out<K>, plan: &Plan) -> Result<Status, AllocError> {
+        push_plan(out, plan);
+        Ok(Status::Done)
+    }
+}
+
 /// Prints the plan in a TOML document, or the document's first fault. The sink comes back.
 pub fn run_plan<K: Sink>(alloc: Global, plan: &[u8], out: K) -> (K, Result<Status, RunError>)
     // The whole text went out, or a beginning where the sink failed, or nothing.
@@ -217,12 +230,5 @@ pub fn run_plan<K: Sink>(alloc: Global, plan: &[u8], out: K) -> (K, Result<Statu
     // Too many bytes, or bytes that are not UTF-8, never give Memory.
     ensures no_text { IsNoText plan.now → result.1 ≢ Err RunError.Memory }
 {
-    match Plan::read(alloc, plan) {
-        Ok(plan) => {
-            let mut text = Out::new(out);
-            push_plan(&mut text, &plan);
-            text.finish_with(Status::Done)
-        }
-        Err(error) => refuse_plan(error, out),
-    }
+    report_plan(alloc, &ShowPlan, plan, out)
 }

@@ -1,16 +1,19 @@
-//! Reports on the table of a log: what the commands share that read a plan and a log.
+//! Reports on a plan, and on the table of a log: what the commands share that read them.
 
 ghost use Rattle.std.specs.Prelude.{◌≡◌, ◌≢◌, Err, IfOk, ℕ, List, Some};
 ghost use Rattle.rip_plan.specs.Network.{Network};
+ghost use Rattle.rip_report.specs.Finished.{Tells};
 ghost use Rattle.rip_report.specs.Given.{IsGiven};
 ghost use Rattle.rip_table.specs.State.{Fits, State, new_state};
 ghost use Rattle.rip_table.specs.declared.error.CollectError.{CollectError};
+ghost use Rattle.rip_report.specs.PlanText.{IsNoText, OfPlan};
 ghost use Rattle.rip_report.specs.ReportText.{AreRead, IsAccepted, IsTable, LogMakes, ReportOf, ReportText};
 ghost use Rattle.rip_report.specs.Runs.{PullsLittleBehind, Reads, RefusesPlan, StopsAtRefusal};
 ghost use Rattle.rip_report.specs.Sent.{Prints, WentOut};
 ghost use Rattle.rip_report.specs.Written.{Written};
 
 use crate::log::read_log;
+use crate::output::Out;
 use crate::refusal::{refuse_log, refuse_plan};
 use crate::status::{RunError, Status};
 use rip_log::laws::log_texts;
@@ -19,32 +22,88 @@ use rip_plan::Plan;
 use rip_plan::laws::{one_plan, well_formed_texts};
 use rip_table::laws::{new_states, one_join, refused_logs};
 use rip_table::{GridTable, MetricTable};
-use std::alloc::Global;
+use std::alloc::{AllocError, Global};
 use std::hash::BuildHasher;
 
-/// A command that reads a plan and a log: what it writes of the log's table.
+/// A command that reads a plan: what it tells of it.
+pub(crate) trait PlanReport {
+    // The texts that it may tell of a plan, each with its status.
+    ghost is_text: { Self → Network → Written → Type 0 };
+
+    /// Adds what there is to say of a plan, or nothing where a growth is refused.
+    fn add<K: Sink>(
+        &self,
+        alloc: Global,
+        out: &mut Out<K>,
+        plan: &Plan,
+    ) -> Result<Status, AllocError>
+        ensures { Tells out.old out.new result (is_text self.now plan.now) };
+}
+
+/// Writes the report on the plan in a TOML document, or why it is refused. The sink comes back.
+pub(crate) fn report_plan<C: PlanReport, K: Sink>(
+    alloc: Global,
+    command: &C,
+    plan: &[u8],
+    out: K,
+) -> (K, Result<Status, RunError>)
+    ensures prints { Prints K.taken K.broken out result.0 result.1
+        (OfPlan (C.is_text command.now) plan.now) }
+    ensures read { result.1 ≢ Err RunError.Read }
+    // Too many bytes, or bytes that are not UTF-8, never give Memory.
+    ensures no_text { IsNoText plan.now → result.1 ≢ Err RunError.Memory }
+{
+    match Plan::read(alloc, plan) {
+        Ok(plan) => {
+            let mut text = Out::new(out);
+            let told = command.add(alloc, &mut text, &plan);
+            text.answer(told)
+        }
+        Err(error) => refuse_plan(error, out),
+    }
+}
+
+/// A command that reads a plan and a log: what it tells of the log's table.
 pub(crate) trait Report {
     ghost use Rattle.rip_report.specs.declared.status.Status.{Status};
 
-    // The texts that it may write of a table, each with its status.
+    // The texts that it may tell of a table, each with its status.
     ghost is_text: { Self → Network → State → Written → Type 0 };
 
     // What its status says of the table, beside its text.
     ghost means: { Self → Network → State → Status → Type 0 };
 
-    /// Writes what there is to say of a table.
-    fn write<T: MetricTable, K: Sink>(
+    /// Adds what there is to say of a table, or nothing where a growth is refused.
+    fn add<T: MetricTable, K: Sink>(
         &self,
         alloc: Global,
+        out: &mut Out<K>,
         plan: &Plan,
         table: &T,
-        out: K,
-    ) -> (K, Result<Status, RunError>)
+    ) -> Result<Status, AllocError>
         requires { Fits plan.now (T.state table.now) }
-        ensures prints { Prints K.taken K.broken out result.0 result.1
+        ensures tells { Tells out.old out.new result
             (is_text self.now plan.now (T.state table.now)) }
-        ensures meaning { IfOk result.1 (means self.now plan.now (T.state table.now)) }
-        ensures read { result.1 ≢ Err RunError.Read };
+        ensures meaning { IfOk result (means self.now plan.now (T.state table.now)) };
+}
+
+/// Writes what a command tells of a table.
+fn write_report<C: Report, T: MetricTable, K: Sink>(
+    alloc: Global,
+    command: &C,
+    plan: &Plan,
+    table: &T,
+    out: K,
+) -> (K, Result<Status, RunError>)
+    requires { Fits plan.now (T.state table.now) }
+    ensures prints { Prints K.taken K.broken out result.0 result.1
+        (C.is_text command.now plan.now (T.state table.now)) }
+    ensures meaning { IfOk result.1 (C.means command.now plan.now (T.state table.now)) }
+    ensures read { result.1 ≢ Err RunError.Read }
+{
+    let mut text = Out::new(out);
+    let told = command.add(alloc, &mut text, plan, table);
+    text.answer(told)
 }
 
 /// Writes the report on a log by its plan, or what refuses the log. The table is new.
@@ -79,7 +138,7 @@ fn report_log<C: Report, R: Source, K: Sink, T: MetricTable>(
     let (source, read) = read_log(alloc, plan, log, table);
     match read {
         Ok(None) => {
-            let (out, answer) = command.write(alloc, plan, table, out);
+            let (out, answer) = write_report(alloc, command, plan, table, out);
             (source, out, answer)
         }
         Ok(Some(error)) => {

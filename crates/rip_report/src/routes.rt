@@ -1,9 +1,10 @@
 //! The command `routes`: the routes that a log shows, beside the least metrics of the plan.
 
-ghost use Rattle.std.specs.Prelude.{◌≢◌, Err, ◌+◌, ◌<◌, ◌==◌, IfNone, IfOk, IfSome, List, ℕ, length};
+ghost use Rattle.std.specs.Prelude.{◌+◌, ◌<◌, ◌==◌, IfNone, IfOk, IfSome, List, ℕ, length};
 ghost use Rattle.rip_plan.specs.Network.{Network};
 ghost use Rattle.rip_check.specs.Cases.{network_of, state_of};
 ghost use Rattle.rip_report.specs.AnywayText.{AnywayRoutes};
+ghost use Rattle.rip_report.specs.Finished.{Tells};
 ghost use Rattle.rip_report.specs.Given.{IsGiven};
 ghost use Rattle.rip_report.specs.Hearings.{RoutesAnyway};
 ghost use Rattle.rip_table.specs.Tallies.{counts_of};
@@ -22,7 +23,7 @@ use crate::events::{EventReport, run_counted};
 use crate::left_out::{anyway_status, push_left_out_line};
 use crate::lines::verdicts::push_reason;
 use crate::lines::{push_route, push_unheard_line};
-use crate::loops::{InterfaceText, PairText, add_interfaces, add_pairs};
+use crate::loops::{NumberText, PairText, add_below, add_pairs};
 use crate::names::{push_counts, push_router};
 use crate::output::Out;
 use crate::report::{Report, run_report};
@@ -32,7 +33,7 @@ use rip_log::{Sink, Source};
 use rip_plan::Plan;
 use rip_table::{Counts, MetricTable};
 use rip_wire::Metric;
-use std::alloc::Global;
+use std::alloc::{AllocError, Global};
 use std::hash::BuildHasher;
 
 /// Adds the line of the counts.
@@ -164,7 +165,7 @@ struct Unheard<'a, T: MetricTable> {
     table: &'a T,
 }
 
-impl<T: MetricTable> InterfaceText for Unheard<'_, T> {
+impl<T: MetricTable> NumberText for Unheard<'_, T> {
     ghost is_for = { λ texts i. Fits texts.plan.now (T.state texts.table.now)
         × (i < length texts.plan.now.interfaces) };
 
@@ -199,36 +200,31 @@ impl PairText for RouteAndLeast {
 }
 
 /// Adds the interfaces that were not heard, and a line for each router and prefix.
-fn add_routes<T: MetricTable, K: Sink>(out: &mut Out<K>, plan: &Plan, expected: Expected, table: &T)
+fn add_lines<T: MetricTable, K: Sink>(out: &mut Out<K>, plan: &Plan, expected: Expected, table: &T)
     requires fits { Fits plan.now (T.state table.now) }
     requires expected { AreExpected plan.now expected }
     ensures { AddsOne out.old out.new (RoutesLines plan.now (T.state table.now)) }
 {
-    add_interfaces(out, &Unheard { plan, table }, plan.interfaces());
+    add_below(out, &Unheard { plan, table }, plan.interfaces());
     add_pairs(out, &RouteAndLeast { expected }, plan, table);
 }
 
-/// Writes the routes of a table, with how much is left out of it after the counts.
-pub(crate) fn write_routes<T: MetricTable, K: Sink>(
+/// Adds the routes of a table, with how much is left out of it after the counts.
+fn add_routes<T: MetricTable, K: Sink>(
     alloc: Global,
+    out: &mut Out<K>,
     plan: &Plan,
     table: &T,
     left_out: Counts,
-    out: K,
-) -> (K, Result<Status, RunError>)
+) -> Result<Status, AllocError>
     requires { Fits plan.now (T.state table.now) }
-    ensures prints { Prints K.taken K.broken out result.0 result.1
-        (AnywayRoutes plan.now (T.state table.now) left_out) }
-    ensures read { result.1 ≢ Err RunError.Read }
+    ensures { Tells out.old out.new result (AnywayRoutes plan.now (T.state table.now) left_out) }
 {
-    let Ok(expected) = Expected::find(alloc, plan) else {
-        return (out, Err(RunError::Memory));
-    };
-    let mut text = Out::new(out);
-    push_counts_line(&mut text, plan, table);
-    push_left_out_line(&mut text, left_out);
-    add_routes(&mut text, plan, expected, table);
-    text.finish_with(anyway_status(left_out, Status::Done))
+    let expected = Expected::find(alloc, plan)?;
+    push_counts_line(out, plan, table);
+    push_left_out_line(out, left_out);
+    add_lines(out, plan, expected, table);
+    Ok(anyway_status(left_out, Status::Done))
 }
 
 /// The command `routes`.
@@ -242,29 +238,29 @@ impl Report for Routes {
 
     ghost means = { λ _ n s status. Unit {0} };
 
-    fn write<T: MetricTable, K: Sink>(
+    fn add<T: MetricTable, K: Sink>(
         &self,
         alloc: Global,
+        out: &mut Out<K>,
         plan: &Plan,
         table: &T,
-        out: K,
-    ) -> (K, Result<Status, RunError>) {
-        write_routes(alloc, plan, table, Counts::new(), out)
+    ) -> Result<Status, AllocError> {
+        add_routes(alloc, out, plan, table, Counts::new())
     }
 }
 
 impl EventReport<Counts> for Routes {
     ghost is_text = { λ _ n events s. AnywayRoutes n s (counts_of events) };
 
-    fn write<T: MetricTable, K: Sink>(
+    fn add<T: MetricTable, K: Sink>(
         &self,
         alloc: Global,
+        out: &mut Out<K>,
         plan: &Plan,
         table: &T,
         left_out: &Counts,
-        out: K,
-    ) -> (K, Result<Status, RunError>) {
-        write_routes(alloc, plan, table, *left_out, out)
+    ) -> Result<Status, AllocError> {
+        add_routes(alloc, out, plan, table, *left_out)
     }
 }
 

@@ -1,6 +1,6 @@
 //! The command `table`: what the interfaces of a plan showed in a log.
 
-ghost use Rattle.std.specs.Prelude.{◌≡◌, ◌≢◌, Err, ◌+◌, ◌<◌, ◌++◌, IfOk, length, codes, ℕ, List, Some};
+ghost use Rattle.std.specs.Prelude.{◌≡◌, ◌+◌, ◌<◌, ◌++◌, IfOk, length, codes, ℕ, List, Some};
 ghost use Rattle.std.specs.List.{enumerate_from, flat_map};
 ghost use Rattle.rip_report.specs.AnywayText.{AnywayTable};
 ghost use Rattle.rip_report.specs.Given.{IsGiven};
@@ -8,7 +8,7 @@ ghost use Rattle.rip_report.specs.Hearings.{TableAnyway};
 ghost use Rattle.rip_table.specs.Tallies.{counts_of};
 ghost use Rattle.rip_table.specs.State.{Fits, State};
 ghost use Rattle.rip_report.specs.Lines.{interface_name};
-ghost use Rattle.rip_report.specs.Outs.{Adds};
+ghost use Rattle.rip_report.specs.Outs.{Adds, AddsOne};
 ghost use Rattle.rip_report.specs.TableText.{TableText, interface_lines, prefix_lines, shown_lines, shown_table, table_line};
 ghost use Rattle.rip_report.specs.ReportText.{IsAccepted};
 ghost use Rattle.rip_report.specs.Runs.{Reads, ReadsOn, RefusesPlan, StopsAtRefusal};
@@ -29,7 +29,7 @@ use rip_log::{Sink, Source};
 use rip_plan::{Interface, Plan};
 use rip_table::{Counts, MetricTable};
 use rip_wire::Metric;
-use std::alloc::Global;
+use std::alloc::{AllocError, Global};
 use std::hash::BuildHasher;
 
 /// Adds the line of the counts.
@@ -138,23 +138,21 @@ fn push_interfaces<T: MetricTable, K: Sink>(out: &mut Out<K>, plan: &Plan, table
     }
 }
 
-/// Writes a table, with how much is left out of it after its counts.
-pub(crate) fn write_table<T: MetricTable, K: Sink>(
+/// Adds a table, with how much is left out of it after its counts.
+fn add_table<T: MetricTable, K: Sink>(
+    out: &mut Out<K>,
     plan: &Plan,
     table: &T,
     left_out: Counts,
-    out: K,
-) -> (K, Result<Status, RunError>)
+) -> Status
     requires { Fits plan.now (T.state table.now) }
-    ensures prints { Prints K.taken K.broken out result.0 result.1
-        (AnywayTable plan.now (T.state table.now) left_out) }
-    ensures read { result.1 ≢ Err RunError.Read }
+    ensures { AddsOne out.old out.new (λ text. AnywayTable plan.now (T.state table.now) left_out
+        (record { text = text; status = result })) }
 {
-    let mut text = Out::new(out);
-    push_counts_line(&mut text, plan.interfaces(), table.prefix_count());
-    push_left_out_line(&mut text, left_out);
-    push_interfaces(&mut text, plan, table);
-    text.finish_with(anyway_status(left_out, Status::Done))
+    push_counts_line(out, plan.interfaces(), table.prefix_count());
+    push_left_out_line(out, left_out);
+    push_interfaces(out, plan, table);
+    anyway_status(left_out, Status::Done)
 }
 
 /// The command `table`.
@@ -168,29 +166,29 @@ impl Report for Table {
 
     ghost means = { λ _ n s status. Unit {0} };
 
-    fn write<T: MetricTable, K: Sink>(
+    fn add<T: MetricTable, K: Sink>(
         &self,
         _: Global,
+        out: &mut Out<K>,
         plan: &Plan,
         table: &T,
-        out: K,
-    ) -> (K, Result<Status, RunError>) {
-        write_table(plan, table, Counts::new(), out)
+    ) -> Result<Status, AllocError> {
+        Ok(add_table(out, plan, table, Counts::new()))
     }
 }
 
 impl EventReport<Counts> for Table {
     ghost is_text = { λ _ n events s. AnywayTable n s (counts_of events) };
 
-    fn write<T: MetricTable, K: Sink>(
+    fn add<T: MetricTable, K: Sink>(
         &self,
         _: Global,
+        out: &mut Out<K>,
         plan: &Plan,
         table: &T,
         left_out: &Counts,
-        out: K,
-    ) -> (K, Result<Status, RunError>) {
-        write_table(plan, table, *left_out, out)
+    ) -> Result<Status, AllocError> {
+        Ok(add_table(out, plan, table, *left_out))
     }
 }
 

@@ -12,14 +12,15 @@ ghost use Rattle.rip_report.specs.PlanText.{IsNoText};
 ghost use Rattle.rip_report.specs.Sent.{Prints};
 ghost use Rattle.rip_report.specs.WhatifText.{FailureText, FailureTexts, LineOfGone, LineOfLost, LinesOfLost, LosesOne, OneText, UnderText, WhatifText, count_of, failed_part, failure_line, failure_of, failures_part, farthest_part, gone_line, hit_part, losing_line, lost_line, whatif_line};
 
+use crate::loops::{NumberText, add_below};
 use crate::names::{push_link, push_router};
 use crate::output::Out;
-use crate::refusal::refuse_plan;
+use crate::report::{PlanReport, report_plan};
 use crate::status::{RunError, Status};
 use rip_check::{Aftermath, Expected, Failure, Impact, Losses};
 use rip_log::Sink;
 use rip_plan::Plan;
-use std::alloc::Global;
+use std::alloc::{AllocError, Global};
 
 /// Adds how many links and routers there are.
 fn push_failures<K: Sink>(out: &mut Out<K>, links: usize, routers: usize)
@@ -136,59 +137,61 @@ fn push_gone_line<K: Sink>(out: &mut Out<K>, plan: &Plan, prefix: usize)
     out.end();
 }
 
-/// Adds the line of a router and a prefix, where the router loses it.
-fn add_if_lost<K: Sink>(out: &mut Out<K>, losses: &Losses<'_>, router: usize, prefix: usize)
-    requires losses { AreLosses losses.now }
-    requires router { router < length losses.now.plan.now.routers }
-    requires prefix { prefix < length losses.now.plan.now.prefixes }
-    ensures { AddsOne out.old out.new (LineOfLost losses.now router prefix) }
-{
-    if losses.is_lost(router, prefix) {
-        push_lost_line(out, losses.plan, router, prefix);
+/// The prefixes that a router loses.
+#[derive(Clone, Copy)]
+struct LostBy<'a> {
+    losses: &'a Losses<'a>,
+    router: usize,
+}
+
+impl NumberText for LostBy<'_> {
+    ghost is_for = { λ by p. AreLosses by.losses.now
+        × (by.router < length by.losses.now.plan.now.routers)
+        × (p < length by.losses.now.plan.now.prefixes) };
+
+    ghost is_text = { λ by p. LineOfLost by.losses.now by.router p };
+
+    fn add<K: Sink>(&self, out: &mut Out<K>, prefix: usize) {
+        if self.losses.is_lost(self.router, prefix) {
+            push_lost_line(out, self.losses.plan, self.router, prefix);
+        }
     }
 }
 
-/// Adds the lines of the prefixes that a router loses.
-fn add_lost_by<K: Sink>(out: &mut Out<K>, losses: &Losses<'_>, router: usize)
-    requires losses { AreLosses losses.now }
-    requires router { router < length losses.now.plan.now.routers }
-    ensures { AddsOne out.old out.new (LinesOfLost losses.now router) }
-{
-    for prefix in 0..losses.plan.prefixes() {
-        add_if_lost(out, losses, router, prefix);
+/// What routers lose.
+#[derive(Clone, Copy)]
+struct Lost<'a> {
+    losses: &'a Losses<'a>,
+}
+
+impl NumberText for Lost<'_> {
+    ghost is_for = { λ lost r. AreLosses lost.losses.now
+        × (r < length lost.losses.now.plan.now.routers) };
+
+    ghost is_text = { λ lost r. LinesOfLost lost.losses.now r };
+
+    fn add<K: Sink>(&self, out: &mut Out<K>, router: usize) {
+        let losses = self.losses;
+        add_below(out, &LostBy { losses, router }, losses.plan.prefixes());
     }
 }
 
-/// Adds the lines of what is lost.
-fn add_lost<K: Sink>(out: &mut Out<K>, losses: &Losses<'_>)
-    requires { AreLosses losses.now }
-    ensures { AddsOne out.old out.new
-        (TextsBelow (LinesOfLost losses.now) (length losses.now.plan.now.routers)) }
-{
-    for router in 0..losses.plan.routers() {
-        add_lost_by(out, losses, router);
-    }
+/// The prefixes that are gone.
+#[derive(Clone, Copy)]
+struct Gone<'a> {
+    losses: &'a Losses<'a>,
 }
 
-/// Adds the line of a prefix, where it is gone.
-fn add_if_gone<K: Sink>(out: &mut Out<K>, losses: &Losses<'_>, prefix: usize)
-    requires losses { AreLosses losses.now }
-    requires prefix { prefix < length losses.now.plan.now.prefixes }
-    ensures { AddsOne out.old out.new (LineOfGone losses.now prefix) }
-{
-    if losses.is_gone(prefix) {
-        push_gone_line(out, losses.plan, prefix);
-    }
-}
+impl NumberText for Gone<'_> {
+    ghost is_for = { λ gone p. AreLosses gone.losses.now
+        × (p < length gone.losses.now.plan.now.prefixes) };
 
-/// Adds the lines of the prefixes that are gone.
-fn add_gone<K: Sink>(out: &mut Out<K>, losses: &Losses<'_>)
-    requires { AreLosses losses.now }
-    ensures { AddsOne out.old out.new
-        (TextsBelow (LineOfGone losses.now) (length losses.now.plan.now.prefixes)) }
-{
-    for prefix in 0..losses.plan.prefixes() {
-        add_if_gone(out, losses, prefix);
+    ghost is_text = { λ gone p. LineOfGone gone.losses.now p };
+
+    fn add<K: Sink>(&self, out: &mut Out<K>, prefix: usize) {
+        if self.losses.is_gone(prefix) {
+            push_gone_line(out, self.losses.plan, prefix);
+        }
     }
 }
 
@@ -198,8 +201,8 @@ fn add_under<K: Sink>(out: &mut Out<K>, losses: &Losses<'_>, all: bool)
     ensures { AddsOne out.old out.new (UnderText losses.now.plan.now losses.now.failure all) }
 {
     if all {
-        add_lost(out, losses);
-        add_gone(out, losses);
+        add_below(out, &Lost { losses }, losses.plan.routers());
+        add_below(out, &Gone { losses }, losses.plan.prefixes());
     }
 }
 
@@ -285,23 +288,36 @@ fn add_kind<K: Sink>(
     count
 }
 
-/// Adds what each failure would cost: the counts, the lines of each, and how many lose something.
-fn add_failures<K: Sink>(
-    out: &mut Out<K>,
-    plan: &Plan,
-    expected: &Expected,
-    aftermath: &mut Aftermath,
+/// The command `whatif`, for what each failure costs in all, or for each that is lost or gone.
+#[derive(Clone, Copy)]
+struct WhatIf {
     all: bool,
-)
-    requires expected { AreExpected plan.now expected.now }
-    requires room { HasRoom plan.now aftermath.old }
-    ensures { AddsOne out.old out.new (λ text.
-        FailureTexts all plan.now (record { text = text; status = Status.Done })) }
-{
-    push_counts_line(out, plan);
-    let links = add_kind(out, plan, expected, aftermath, Kind::Links, all);
-    let routers = add_kind(out, plan, expected, aftermath, Kind::Routers, all);
-    push_losing_line(out, links, routers);
+}
+
+impl PlanReport for WhatIf {
+    ghost is_text = { λ whatif. FailureTexts whatif.all };
+
+    fn add<K: Sink>(
+        &self,
+        alloc: Global,
+        out: &mut Out<K>,
+        plan: &Plan,
+    ) -> Result<Status, AllocError> {
+        let expected = Expected::find(alloc, plan)?;
+        let mut aftermath = Aftermath::new(alloc, plan)?;
+        push_counts_line(out, plan);
+        let links = add_kind(out, plan, &expected, &mut aftermath, Kind::Links, self.all);
+        let routers = add_kind(
+            out,
+            plan,
+            &expected,
+            &mut aftermath,
+            Kind::Routers,
+            self.all,
+        );
+        push_losing_line(out, links, routers);
+        Ok(Status::Done)
+    }
 }
 
 /// Prints what the failure of each link and router would cost in the plan that a TOML document
@@ -321,17 +337,5 @@ pub fn run_whatif<K: Sink>(
     // Too many bytes, or bytes that are not UTF-8, never give Memory.
     ensures no_text { IsNoText plan.now → result.1 ≢ Err RunError.Memory }
 {
-    let plan = match Plan::read(alloc, plan) {
-        Ok(plan) => plan,
-        Err(error) => return refuse_plan(error, out),
-    };
-    let Ok(expected) = Expected::find(alloc, &plan) else {
-        return (out, Err(RunError::Memory));
-    };
-    let Ok(mut aftermath) = Aftermath::new(alloc, &plan) else {
-        return (out, Err(RunError::Memory));
-    };
-    let mut text = Out::new(out);
-    add_failures(&mut text, &plan, &expected, &mut aftermath, all);
-    text.finish_with(Status::Done)
+    report_plan(alloc, &WhatIf { all }, plan, out)
 }

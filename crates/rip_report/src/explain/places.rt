@@ -15,7 +15,7 @@ use crate::explain::lines::{
     push_direct_line, push_least_line, push_offer_line, push_read_route_line, push_shown_line,
 };
 use crate::lines::verdicts::push_unsettled_line;
-use crate::loops::{InterfaceText, PairText, add_listed};
+use crate::loops::{NumberText, PairText, add_listed};
 use crate::output::Out;
 use rip_check::{Case, Expected, Place2, Unsettled};
 use rip_log::Sink;
@@ -29,7 +29,7 @@ struct Shown<'a, T: MetricTable> {
     case: &'a Case<'a, T>,
 }
 
-impl<T: MetricTable> InterfaceText for Shown<'_, T> {
+impl<T: MetricTable> NumberText for Shown<'_, T> {
     ghost is_for = { λ texts i. i < length (network_of texts.case.now).interfaces };
 
     ghost is_text = { λ texts i.
@@ -66,7 +66,7 @@ struct OfferTo<'a, T: MetricTable> {
     own: Interface,
 }
 
-impl<T: MetricTable> InterfaceText for OfferTo<'_, T> {
+impl<T: MetricTable> NumberText for OfferTo<'_, T> {
     ghost use Rattle.rip_plan.specs.Relations.{HasCost, IsInterface};
 
     ghost is_for = { λ texts j.
@@ -94,7 +94,7 @@ struct OffersOverLink<'a, T: MetricTable> {
     case: &'a Case<'a, T>,
 }
 
-impl<T: MetricTable> InterfaceText for OffersOverLink<'_, T> {
+impl<T: MetricTable> NumberText for OffersOverLink<'_, T> {
     ghost is_for = { λ texts i. i < length (network_of texts.case.now).interfaces };
 
     ghost is_text = { λ texts i.

@@ -10,7 +10,7 @@ ghost use Rattle.rip_report.specs.Outs.{AddsOne};
 use crate::explain::lines::{push_heard_line, push_none_heard_line};
 use crate::explain::places::add_shown;
 use crate::lines::verdicts::push_unclear_line;
-use crate::loops::{InterfaceText, PairText, add_interfaces, add_listed, add_pairs};
+use crate::loops::{NumberText, PairText, add_below, add_listed, add_pairs};
 use crate::output::Out;
 use rip_check::{Case, Unclear};
 use rip_log::Sink;
@@ -24,7 +24,7 @@ struct Heard<'a, T: MetricTable> {
     table: &'a T,
 }
 
-impl<T: MetricTable> InterfaceText for Heard<'_, T> {
+impl<T: MetricTable> NumberText for Heard<'_, T> {
     ghost is_for = { λ texts i. Fits texts.plan.now (T.state texts.table.now)
         × (i < length texts.plan.now.interfaces) };
 
@@ -101,7 +101,7 @@ struct Unheard<'a, T: MetricTable> {
     table: &'a T,
 }
 
-impl<T: MetricTable> InterfaceText for Unheard<'_, T> {
+impl<T: MetricTable> NumberText for Unheard<'_, T> {
     ghost is_for = { λ texts i. Fits texts.plan.now (T.state texts.table.now)
         × (i < length texts.plan.now.interfaces) };
 
@@ -144,7 +144,7 @@ fn add_troubles<T: MetricTable, K: Sink>(out: &mut Out<K>, plan: &Plan, table: &
 {
     match first {
         Unclear::NotHeard { .. } => {
-            add_interfaces(out, &Unheard { plan, table }, plan.interfaces());
+            add_below(out, &Unheard { plan, table }, plan.interfaces());
         }
         Unclear::TwoMetrics { .. }
         | Unclear::Missing { .. }

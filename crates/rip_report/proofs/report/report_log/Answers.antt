@@ -16,18 +16,18 @@ returns-in-Ok-None-clause-prints g c = λ text begins.
     let told_of = rw (c.in-Ok-None.is, c.in-Ok-None.field-0-is) at c.read_log-source.ensures.told in
     let told = told_of text begins in
     let says = g.C.Report.is_text c.args.command.now c.args.plan.now in
-    prints_also (says s) (ReportOf says c.args.plan.now text) g.K.Sink.taken g.K.Sink.broken c.args.out c.write-out.result.0 c.write-out.result.1 (λ w h. of_table s w told h) c.write-out.ensures.prints
+    prints_also (says s) (ReportOf says c.args.plan.now text) g.K.Sink.taken g.K.Sink.broken c.args.out c.write_report-out.result.0 c.write_report-out.result.1 (λ w h. of_table s w told h) c.write_report-out.ensures.prints
 
 pub returns-in-Ok-None-clause-told : goal.returns-in-Ok-None-clause-told
 returns-in-Ok-None-clause-told g c = λ text begins.
     let n = c.args.plan.now in
     let s = g.T.MetricTable.state c.read_log-source.new.table in
     let a = g.K.Sink.taken c.args.out in
-    let b = g.K.Sink.taken c.write-out.result.0 in
+    let b = g.K.Sink.taken c.write_report-out.result.0 in
     let told_of = rw (c.in-Ok-None.is, c.in-Ok-None.field-0-is) at c.read_log-source.ensures.told in
     let told = told_of text begins in
-    λ t table. subst (λ (u : State). IfOk c.write-out.result.1 (WentOut (g.C.Report.is_text c.args.command.now n u) a b))
-    (same_table (record { text = c.log_texts.ensures.text; fault = c.log_texts.ensures.fault }) c.one_join.ensures n text s t None told table).0 c.write-out.ensures.prints.text
+    λ t table. subst (λ (u : State). IfOk c.write_report-out.result.1 (WentOut (g.C.Report.is_text c.args.command.now n u) a b))
+    (same_table (record { text = c.log_texts.ensures.text; fault = c.log_texts.ensures.fault }) c.one_join.ensures n text s t None told table).0 c.write_report-out.ensures.prints.text
 
 pub returns-in-Ok-None-clause-meaning : goal.returns-in-Ok-None-clause-meaning
 returns-in-Ok-None-clause-meaning g c = λ text begins.
@@ -35,8 +35,8 @@ returns-in-Ok-None-clause-meaning g c = λ text begins.
     let s = g.T.MetricTable.state c.read_log-source.new.table in
     let told_of = rw (c.in-Ok-None.is, c.in-Ok-None.field-0-is) at c.read_log-source.ensures.told in
     let told = told_of text begins in
-    λ t table. subst (λ (u : State). IfOk c.write-out.result.1 (g.C.Report.means c.args.command.now n u))
-    (same_table (record { text = c.log_texts.ensures.text; fault = c.log_texts.ensures.fault }) c.one_join.ensures n text s t None told table).0 c.write-out.ensures.meaning
+    λ t table. subst (λ (u : State). IfOk c.write_report-out.result.1 (g.C.Report.means c.args.command.now n u))
+    (same_table (record { text = c.log_texts.ensures.text; fault = c.log_texts.ensures.fault }) c.one_join.ensures n text s t None told table).0 c.write_report-out.ensures.meaning
 
 pub returns-in-Ok-Some-clause-prints : goal.returns-in-Ok-Some-clause-prints
 returns-in-Ok-Some-clause-prints g c = λ text begins.

@@ -1,8 +1,0 @@
-use Rattle.rip_report.specs.ExpectText.{right_routes}
-use Rattle.rip_report.proofs.OutLemmas.{adds_one, adds_then}
-use Rattle.rip_report.proofs.expect.add_expected.Goals as goal
-
-pub returns : goal.returns
-returns g c =
-    let lines = c.add_routers.ensures in
-    adds_one (right_routes c.unreachable.result lines.text c.unreachable.ensures lines.is_text) (adds_then c.push_counts_line.ensures lines.adds)

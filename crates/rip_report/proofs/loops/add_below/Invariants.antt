@@ -1,0 +1,6 @@
+use Rattle.rip_report.specs.Listings.{TextsBelow}
+use Rattle.rip_report.specs.Outs.{AddsOne}
+use Rattle.rip_report.proofs.loops.add_below.Given as goal
+
+abbrev pub invariant-loop-number : goal.invariant-loop-number
+invariant-loop-number g l = record { adds : AddsOne l.fn.out l.out (TextsBelow (g.E.NumberText.is_text l.texts) l.number) }

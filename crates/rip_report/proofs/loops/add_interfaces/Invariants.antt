@@ -1,6 +1,0 @@
-use Rattle.rip_report.specs.Listings.{TextsBelow}
-use Rattle.rip_report.specs.Outs.{AddsOne}
-use Rattle.rip_report.proofs.loops.add_interfaces.Given as goal
-
-abbrev pub invariant-loop-number : goal.invariant-loop-number
-invariant-loop-number g l = record { adds : AddsOne l.fn.out l.out (TextsBelow (g.E.InterfaceText.is_text l.texts) l.number) }

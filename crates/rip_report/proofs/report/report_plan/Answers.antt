@@ -1,0 +1,14 @@
+use Rattle.rip_report.specs.PlanText.{OfPlan, a_fault, of_plan}
+use Rattle.rip_report.proofs.EndLemmas.{first_told, refused_prints, tells_also, tells_prints}
+use Rattle.rip_report.proofs.report.report_plan.Goals as goal
+
+pub returns-in-Ok-clause-prints : goal.returns-in-Ok-clause-prints
+returns-in-Ok-clause-prints g c =
+    let begun = c.new-text.ensures in
+    let told = tells_also (λ w is. of_plan c.in-Ok.plan w c.in-Ok.ensures.no_fault c.in-Ok.ensures.plan is) c.add-told.ensures in
+    tells_prints g.K.Sink.taken g.K.Sink.broken c.args.out c.answer.result.0 begun.start begun.now begun.text told c.answer.ensures.answers
+
+pub returns-in-Err-clause-prints : goal.returns-in-Err-clause-prints
+returns-in-Err-clause-prints g c =
+    refused_prints (OfPlan (g.C.PlanReport.is_text c.args.command.now) c.args.plan.now) c.in-Err.error g.K.Sink.taken g.K.Sink.broken c.args.out c.refuse_plan.result.0 c.refuse_plan.result.1
+    (λ other. a_fault c.in-Err.error (first_told c.args.plan.now c.in-Err.error c.in-Err.ensures.told other)) c.refuse_plan.ensures.memory c.refuse_plan.ensures.prints
