@@ -198,10 +198,8 @@ impl PlanReport for Expect {
 /// tables are once the network has settled. The sink comes back. It allocates a byte for each
 /// router and prefix, beside the plan.
 pub fn run_expect<K: Sink>(alloc: Global, plan: &[u8], out: K) -> (K, Result<Status, RunError>)
-    // The whole text went out, or a beginning where the sink failed, or nothing.
     ensures prints { Prints K.taken K.broken out result.0 result.1 (ExpectText plan.now) }
     ensures read { result.1 ≢ Err RunError.Read }
-    // Too many bytes, or bytes that are not UTF-8, never give Memory.
     ensures no_text { IsNoText plan.now → result.1 ≢ Err RunError.Memory }
 {
     report_plan(alloc, &Expect, plan, out)

@@ -219,15 +219,11 @@ pub fn run_explain<R: Source, K: Sink, S: BuildHasher + Drop>(
     ensures places { all ≡ true → (text : List ℕ) → IsGiven R.given R.at_end log result.0 text →
         (n : Network) (s : State) → IsAccepted plan.now text n s →
         IfOk result.2 (WentOut (ExplainsAll n s) (K.taken out) (K.taken result.1)) }
-    // The whole text went out, or a beginning where the sink failed, or nothing.
     ensures prints { (text : List ℕ) → IsGiven R.given R.at_end log result.0 text →
         Prints K.taken K.broken out result.1 result.2
         (ReportText (λ n s. ExplainText n s all) plan.now text) }
-    // What is printed of a table comes only at the source's end, and Read only where it has failed.
     ensures reads { Reads R.given R.coming R.broken R.at_end log result.0 result.2 }
-    // If the plan is refused, the log is not touched; one that is no text never gives Memory.
     ensures refuses { RefusesPlan plan.now log result.0 result.2 }
-    // Behind the line at which a log is refused no more is pulled than a reader holds.
     ensures stops { StopsAtRefusal R.given R.at_end plan.now log result.0 result.2 }
 {
     one_set_of_tables();

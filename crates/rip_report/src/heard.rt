@@ -140,12 +140,10 @@ pub fn run_heard<R: Source, K: Sink, S: BuildHasher + Drop>(
     prefixes: S,
     strangers: S,
 ) -> (R, K, Result<Status, RunError>)
-    // The whole text went out, or a beginning where the sink failed, or nothing.
     ensures prints { (text : List ℕ) → IsGiven R.given R.at_end log result.0 text →
         Prints K.taken K.broken out result.1 result.2 (HeardOf plan.now text) }
     // Read only where the source has failed, or a line has more than 2^64 - 1 bytes.
     ensures reads { ReadsOn R.given R.coming R.broken R.at_end log result.0 result.2 }
-    // If the plan is refused, the log is not touched; one that is no text never gives Memory.
     ensures refuses { RefusesPlan plan.now log result.0 result.2 }
 {
     let plan = match Plan::read(alloc, plan) {

@@ -224,10 +224,8 @@ impl PlanReport for ShowPlan {
 
 /// Prints the plan in a TOML document, or the document's first fault. The sink comes back.
 pub fn run_plan<K: Sink>(alloc: Global, plan: &[u8], out: K) -> (K, Result<Status, RunError>)
-    // The whole text went out, or a beginning where the sink failed, or nothing.
     ensures prints { Prints K.taken K.broken out result.0 result.1 (PlanText plan.now) }
     ensures read { result.1 ≢ Err RunError.Read }
-    // Too many bytes, or bytes that are not UTF-8, never give Memory.
     ensures no_text { IsNoText plan.now → result.1 ≢ Err RunError.Memory }
 {
     report_plan(alloc, &ShowPlan, plan, out)

@@ -201,20 +201,16 @@ pub fn run_table<R: Source, K: Sink, S: BuildHasher + Drop>(
     out: K,
     hasher: S,
 ) -> (R, K, Result<Status, RunError>)
-    // The whole text went out, or a beginning where the sink failed, or nothing.
     ensures prints { (text : List ℕ) → IsGiven R.given R.at_end log result.0 text →
         Prints K.taken K.broken out result.1 result.2
         (TableText plan.now text) }
-    // What is printed of a table comes only at the source's end, and Read only where it has failed.
     ensures reads { Reads R.given R.coming R.broken R.at_end log result.0 result.2 }
     // Where plan and log are accepted, it is the table that the log shows.
     ensures told { (text : List ℕ) → IsGiven R.given R.at_end log result.0 text →
         (n : Network) (s : State) → IsAccepted plan.now text n s →
         IfOk result.2
         (WentOut (λ w. w ≡ shown_table n s) (K.taken out) (K.taken result.1)) }
-    // If the plan is refused, the log is not touched; one that is no text never gives Memory.
     ensures refuses { RefusesPlan plan.now log result.0 result.2 }
-    // Behind the line at which a log is refused no more is pulled than a reader holds.
     ensures stops { StopsAtRefusal R.given R.at_end plan.now log result.0 result.2 }
 {
     run_report(alloc, &Table, plan, log, out, hasher)
@@ -231,17 +227,14 @@ pub fn run_table_anyway<R: Source, K: Sink, S: BuildHasher + Drop>(
     out: K,
     hasher: S,
 ) -> (R, K, Result<Status, RunError>)
-    // The whole text went out, or a beginning where the sink failed, or nothing.
     ensures prints { (text : List ℕ) → IsGiven R.given R.at_end log result.0 text →
         Prints K.taken K.broken out result.1 result.2 (TableAnyway plan.now text) }
-    // Read only where the source has failed, or a line has more than 2^64 - 1 bytes.
     ensures reads { ReadsOn R.given R.coming R.broken R.at_end log result.0 result.2 }
     // Of a log that is accepted it is what `table` prints.
     ensures accepted { (text : List ℕ) → IsGiven R.given R.at_end log result.0 text →
         (n : Network) (s : State) → IsAccepted plan.now text n s →
         IfOk result.2
         (WentOut (λ w. w ≡ shown_table n s) (K.taken out) (K.taken result.1)) }
-    // If the plan is refused, the log is not touched; one that is no text never gives Memory.
     ensures refuses { RefusesPlan plan.now log result.0 result.2 }
 {
     run_counted(alloc, &Table, plan, log, out, hasher)

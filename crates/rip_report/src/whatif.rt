@@ -331,10 +331,8 @@ pub fn run_whatif<K: Sink>(
     out: K,
     all: bool,
 ) -> (K, Result<Status, RunError>)
-    // The whole text went out, or a beginning where the sink failed, or nothing.
     ensures prints { Prints K.taken K.broken out result.0 result.1 (WhatifText all plan.now) }
     ensures read { result.1 ≢ Err RunError.Read }
-    // Too many bytes, or bytes that are not UTF-8, never give Memory.
     ensures no_text { IsNoText plan.now → result.1 ≢ Err RunError.Memory }
 {
     report_plan(alloc, &WhatIf { all }, plan, out)
