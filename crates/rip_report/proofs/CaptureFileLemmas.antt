@@ -14,6 +14,7 @@ use Rattle.rip_capture.specs.declared.error.CaptureCode.{CaptureCode}
 use Rattle.rip_capture.specs.declared.error.CaptureCode.TheVariants.{Magic, Cut, Version, LinkType as NoLinkType, Length, Interface, OldPacket, Read as NoRead}
 use Rattle.rip_capture.specs.declared.reader.CaptureReader.{CaptureReader}
 use Rattle.rip_capture.specs.declared.reader.Format.{Format}
+use Rattle.rip_report.specs.Finished.{EndsWith}
 use Rattle.rip_report.specs.CaptureLogs.{AddsFile, AddsUnread, BeginsWith, File, FileText, Follows, GoesOn, IsLogOf, IsRefusedAt, LogOf, SoFar, worse}
 use Rattle.rip_report.specs.CaptureLogs.LogOf.{stopped}
 use Rattle.rip_report.specs.CaptureLogs.SoFar.{more}
@@ -21,8 +22,9 @@ use Rattle.rip_report.specs.CaptureLogs.BeginsWith.{none, some}
 use Rattle.rip_report.specs.CaptureLogs.FileFront.{text as whole_front, packets as some_packets}
 use Rattle.rip_report.specs.CaptureLogs.FileText.{whole, refused, unread, memory}
 use Rattle.rip_report.specs.CaptureLogs.IsRefusedAt.{fault, packet, comment}
-use Rattle.rip_report.specs.CapturePackets.{ClosesFile, EndsSo, EndsWith}
-use Rattle.rip_report.specs.Outs.{Adds, Mark, Progress, mark_of}
+use Rattle.rip_report.specs.CapturePackets.{ClosesFile, EndsSo}
+use Rattle.rip_report.specs.Outs.{Adds, Progress}
+use Rattle.rip_report.specs.Sent.{SinkState, sink_state}
 use Rattle.rip_report.specs.CaptureText.{Carrier, IsCarrier, comment_line, counted_status, line_count, packet_lines}
 use Rattle.rip_report.specs.Statuses.{fault_line_of}
 use Rattle.rip_report.specs.Written.{line}
@@ -115,7 +117,7 @@ module _ {R : Type 0} (given : R → List ℕ) (at_end : R → Bool) (before byt
 
 -- a run that wrote the text of a file, and then ends, has added it
 module _ {K : Type 0} (taken : K → Taken) (broken : K → Bool) (old new : K) (before after : CaptureLog) (link bytes : List ℕ) where
-  pub adds-text : (text : List ℕ) (lines : ℕ) (answer result : Result Status RunError) → EndsWith (mark_of taken broken old) (mark_of taken broken new) text answer result
+  pub adds-text : (text : List ℕ) (lines : ℕ) (answer result : Result Status RunError) → EndsWith (sink_state taken broken old) (sink_state taken broken new) text answer result
       → FileText before.authentication (before.files + 1) before.lines link bytes text lines answer → Follows before after lines result → AddsFile taken broken old new before after link bytes result
   adds-text text lines answer result ends is follows = record {
     kept = λ e is_error. subst (Follows before after lines) is_error follows;
@@ -124,7 +126,7 @@ module _ {K : Type 0} (taken : K → Taken) (broken : K → Bool) (old new : K) 
     sink = ends.sink;
   }
 
-  pub not-followed : (text : List ℕ) (lines : ℕ) (answer result : Result Status RunError) → (answer ≡ Ok RefusedFile) ⊎ (is_err answer ≡ true) → EndsWith (mark_of taken broken old) (mark_of taken broken new) text answer result →
+  pub not-followed : (text : List ℕ) (lines : ℕ) (answer result : Result Status RunError) → (answer ≡ Ok RefusedFile) ⊎ (is_err answer ≡ true) → EndsWith (sink_state taken broken old) (sink_state taken broken new) text answer result →
       after ≡ before → Follows before after lines result
   not-followed text lines answer (Err e) h ends same = same
   not-followed text lines answer (Ok s) (inl e) ends same =
@@ -137,7 +139,7 @@ module _ {R K : Type 0} (given : R → List ℕ) (at_end : R → Bool) (start by
     (taken : K → Taken) (broken : K → Bool) (old new : K) (before after : CaptureLog) (link : List ℕ) (out : Progress) (early : Early) (captures : ReadCaptures)
     (cs : List Carrier) (carry : AllByRecursion IsCarrier cs) (few : before.lines + line_count cs ≤ 1000000) where
   pub adds-file : (ending : Ending) (result : Result Status RunError) → EndsSo given at_end before.authentication start before.lines cs reader out ending
-      → ClosesFile (mark_of taken broken old) (mark_of taken broken new) before after link (packet_lines before.authentication link cs) ending result → AddsFile taken broken old new before after link bytes result
+      → ClosesFile (sink_state taken broken old) (sink_state taken broken new) before after link (packet_lines before.authentication link cs) ending result → AddsFile taken broken old new before after link bytes result
   adds-file (Whole tally) result (here, counts, count, room) (ends, follows) =
       let is = whole-is given at_end start bytes reader text (map (λ c. c.frame) cs) here in
       adds-text taken broken old new before after link bytes _ (tally.lines + 1) _ result ends
@@ -173,7 +175,7 @@ module _ {R K : Type 0} (given : R → List ℕ) (at_end : R → Bool) (start by
 
 -- a run that ends with Read had a source that failed
 pub unread-only : {K : Type 0} (taken : K → Taken) (broken : K → Bool) (old new : K) (before after : CaptureLog) (link text : List ℕ) (ending : Ending) (result : Result Status RunError)
-    → ClosesFile (mark_of taken broken old) (mark_of taken broken new) before after link text ending result → result ≡ Err Read → ending ≡ Unread
+    → ClosesFile (sink_state taken broken old) (sink_state taken broken new) before after link text ending result → result ≡ Err Read → ending ≡ Unread
 unread-only taken broken old new before after link text (Whole tally) result (ends, follows) e = absurd (cc ((ends.out (λ f. cc (e, f))).0, e))
 unread-only taken broken old new before after link text (Refused (Capture code) at) result (ends, same) e = absurd (cc ((ends.out (λ f. cc (e, f))).0, e))
 unread-only taken broken old new before after link text (Refused TooManyLines at) result (ends, same) e = absurd (cc ((ends.out (λ f. cc (e, f))).0, e))
@@ -182,7 +184,7 @@ unread-only taken broken old new before after link text Unwritten result (is, si
 
 -- no run that began a file ends with Memory
 pub never-memory : {K : Type 0} (taken : K → Taken) (broken : K → Bool) (old new : K) (before after : CaptureLog) (link text : List ℕ) (ending : Ending) (result : Result Status RunError)
-    → ClosesFile (mark_of taken broken old) (mark_of taken broken new) before after link text ending result → result ≡ Err Memory → ⊥
+    → ClosesFile (sink_state taken broken old) (sink_state taken broken new) before after link text ending result → result ≡ Err Memory → ⊥
 never-memory taken broken old new before after link text (Whole tally) result (ends, follows) e = cc ((ends.out (λ f. cc (e, f))).0, e)
 never-memory taken broken old new before after link text (Refused (Capture code) at) result (ends, same) e = cc ((ends.out (λ f. cc (e, f))).0, e)
 never-memory taken broken old new before after link text (Refused TooManyLines at) result (ends, same) e = cc ((ends.out (λ f. cc (e, f))).0, e)
@@ -203,7 +205,7 @@ module _ {R : Type 0} (given : R → List ℕ) (at_end : R → Bool) (start byte
 pub adds-unread : {R K : Type 0} (given : R → List ℕ) (at_end : R → Bool) (start bytes : List ℕ) (reader : CaptureReader R) (taken : K → Taken) (broken : K → Bool) (old new : K)
     (before after : CaptureLog) (link : List ℕ) (lines : ℕ) (out : Progress) (cs : List Carrier)
     → AllByRecursion IsCarrier cs → given (source_of reader) ≡ start ++ bytes → EndsSo given at_end before.authentication start lines cs reader out Unread → (result : Result Status RunError)
-    → ClosesFile (mark_of taken broken old) (mark_of taken broken new) before after link (packet_lines before.authentication link cs) Unread result
+    → ClosesFile (sink_state taken broken old) (sink_state taken broken new) before after link (packet_lines before.authentication link cs) Unread result
     → result ≡ Err Read → AddsUnread taken old new before.authentication link bytes
 adds-unread given at_end start bytes reader taken broken old new before after link lines out cs carry gave (error, stops, failed) result (ends, same) e =
     let is : bytes ≡ stops.front ++ stops.rest = append_cancel_left start bytes (stops.front ++ stops.rest) (sym gave ∙ stops.gave ∙ append_assoc start stops.front stops.rest) in
@@ -218,18 +220,18 @@ adds-unread given at_end start bytes reader taken broken old new before after li
     }
 
 -- the end of a run that added a text to nothing
-pub ends-behind : (a new : Mark) (begun out : Progress) (text : List ℕ) (answer result : Result Status RunError) → begun.start ≡ a → begun.text ≡ [] → Adds begun out text
+pub ends-behind : (a new : SinkState) (begun out : Progress) (text : List ℕ) (answer result : Result Status RunError) → begun.start ≡ a → begun.text ≡ [] → Adds begun out text
     → EndsWith out.start new out.text answer result → EndsWith a new text answer result
 ends-behind a new begun out text answer result start empty adds ends =
     subst (λ (t : List ℕ). EndsWith a new t answer result) (adds.text ∙ ap (λ (l : List ℕ). l ++ text) empty)
-    (subst (λ (m : Mark). EndsWith m new out.text answer result) (adds.start ∙ start) ends)
+    (subst (λ (m : SinkState). EndsWith m new out.text answer result) (adds.start ∙ start) ends)
 
 -- what the last line of a file leaves, behind the lines that were added to nothing
-pub closes-behind : (a new : Mark) (begun out : Progress) (before after : CaptureLog) (link lines : List ℕ) (ending : Ending) (result : Result Status RunError) → begun.start ≡ a → begun.text ≡ []
+pub closes-behind : (a new : SinkState) (begun out : Progress) (before after : CaptureLog) (link lines : List ℕ) (ending : Ending) (result : Result Status RunError) → begun.start ≡ a → begun.text ≡ []
     → Adds begun out lines → ClosesFile out.start new before after link out.text ending result → ClosesFile a new before after link lines ending result
 closes-behind a new begun out before after link lines ending result start empty adds closes =
     subst (λ (t : List ℕ). ClosesFile a new before after link t ending result) (adds.text ∙ ap (λ (l : List ℕ). l ++ lines) empty)
-    (subst (λ (m : Mark). ClosesFile m new before after link out.text ending result) (adds.start ∙ start) closes)
+    (subst (λ (m : SinkState). ClosesFile m new before after link out.text ending result) (adds.start ∙ start) closes)
 
 -- ---- a log that goes on
 
@@ -280,7 +282,7 @@ failed-text Write h how n lines link bytes few = absurd (h refl)
 failed-text Memory h how n lines link bytes few = memory refl refl
 
 pub failure-goes-on : {K : Type 0} (taken : K → Taken) (broken : K → Bool) (old new : K) (error : RunError) (result : Result Status RunError) → error ≢ Write
-    → EndsWith (mark_of taken broken old) (mark_of taken broken new) (line (fault_line_of error)) (Err error) result → (log : CaptureLog) (files : List File) (text : List ℕ) (file : File) → IsLogOf log files text → result ≢ Err Write
+    → EndsWith (sink_state taken broken old) (sink_state taken broken new) (line (fault_line_of error)) (Err error) result → (log : CaptureLog) (files : List File) (text : List ℕ) (file : File) → IsLogOf log files text → result ≢ Err Write
     → (part : List ℕ) × Took (taken old) (taken new) part × LogOf log.authentication (files ++ file ∷ []) (text ++ part) result
 failure-goes-on taken broken old new error result good ends log files text file is wrote =
     let out = ends.out wrote in

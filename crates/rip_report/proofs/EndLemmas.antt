@@ -7,78 +7,85 @@ use Rattle.rip_plan.specs.PlanFaults.{PlanFault}
 use Rattle.rip_plan.specs.declared.error.PlanCode.TheVariants.{Memory as OutOfMemory}
 use Rattle.rip_plan.specs.declared.error.PlanError.{PlanError}
 use Rattle.rip_log.specs.Taken.{Taken}
-use Rattle.rip_log.specs.declared.device.Failed.{Failed}
-use Rattle.rip_report.specs.Finished.{Answers, Ends, Tells, finished}
-use Rattle.rip_report.specs.Outs.{AddsOne, Mark, Progress, Stands, mark_of}
+use Rattle.rip_report.specs.Finished.{AddsWritten, Answers, EndsWith}
+use Rattle.rip_report.specs.Outs.{AddsOne, Progress}
+use Rattle.rip_report.specs.Sent.{Prints, SinkState, WentOut, sink_state}
 use Rattle.rip_report.specs.PlanText.{refused_plan}
-use Rattle.rip_report.specs.Sent.{Prints, WentOut}
 use Rattle.rip_report.specs.Written.{Written}
 use Rattle.rip_report.specs.declared.status.Status.{Status}
 use Rattle.rip_report.specs.declared.status.RunError.{RunError}
-use Rattle.rip_report.specs.declared.status.RunError.TheVariants.{Memory, Write}
+use Rattle.rip_report.specs.declared.status.RunError.TheVariants.{Memory, Read, Write}
 use Rattle.rip_report.proofs.OutLemmas.{added_also}
-use Rattle.rip_report.proofs.SentLemmas.{Sent-whole}
 
--- the text is one of them
-stands_prints : {K : Type 0} (IsText : Written → Type 0) (w : Written) (taken : K → Taken) (broken : K → Bool) (a b : K) (wrote : Result (Unit {0}) Failed) (answer : Result Status RunError) → IsText w
-    → answer ≡ finished wrote w.status → Stands (mark_of taken broken a) (mark_of taken broken b) wrote w.text [] → Prints taken broken a b answer IsText
-stands_prints IsText w taken broken a b (Ok done) answer told is v = rw is (record {
-  text = (w.text, told, Sent-whole (taken a) (taken b) w.text v.ok);
-  write = λ e. cc e;
-  read = λ e. cc e;
-  memory = λ e. cc e;
-  sink = λ other. v.marks refl;
-})
-stands_prints IsText w taken broken a b (Err f) answer told is v = rw is (record {
+-- the text that was written is one of them
+pub ends_prints : {K : Type 0} (IsText : Written → Type 0) (taken : K → Taken) (broken : K → Bool) (a b : K) (w : Written) (answer : Result Status RunError) → IsText w →
+    EndsWith (sink_state taken broken a) (sink_state taken broken b) w.text (Ok w.status) answer → Prints taken broken a b answer IsText
+ends_prints IsText taken broken a b w (Ok status) told e =
+    let out = e.out (λ h. cc h) in
+    let same : status ≡ w.status = cc out.0 in
+    record {
+      text = (w.text, subst (λ (s : Status). IsText (record { text = w.text; status = s })) (sym same) told, out.1);
+      write = λ h. cc h;
+      read = λ h. cc h;
+      memory = λ h. cc h;
+      sink = λ other. e.sink other;
+    }
+ends_prints IsText taken broken a b w (Err Write) told e = record {
   text = tt;
-  write = λ e. (v.failed refl, (w, told, v.err));
-  read = λ e. cc e;
-  memory = λ e. cc e;
+  write = λ h. let began = e.write refl in (began.0, (w, told, began.1));
+  read = λ h. cc h;
+  memory = λ h. cc h;
   sink = λ other. absurd (other refl);
-})
-
-pub ends_prints : {K : Type 0} (IsText : Written → Type 0) (taken : K → Taken) (broken : K → Bool) (a b : K) (text : Progress) (status : Status) (answer : Result Status RunError)
-    → Ends text status (mark_of taken broken b) answer → text.start ≡ mark_of taken broken a → IsText (record { text = text.text; status = status }) → Prints taken broken a b answer IsText
-ends_prints IsText taken broken a b text status answer e start told =
-    stands_prints IsText (record { text = text.text; status = status }) taken broken a b e.wrote answer told e.answers
-    (subst (λ (m : Mark). Stands m (mark_of taken broken b) e.wrote text.text []) start e.stands)
+}
+ends_prints IsText taken broken a b w (Err Read) told e = absurd (cc (e.out (λ h. cc h)).0)
+ends_prints IsText taken broken a b w (Err Memory) told e = absurd (cc (e.out (λ h. cc h)).0)
 
 -- one of them was added to nothing
 pub ends_one : {K : Type 0} {IsText : Written → Type 0} (taken : K → Taken) (broken : K → Bool) (a b : K) {begun text : Progress} {status : Status} {answer : Result Status RunError}
-    → begun.start ≡ mark_of taken broken a → begun.text ≡ [] → AddsOne begun text (λ l. IsText (record { text = l; status = status })) → Ends text status (mark_of taken broken b) answer
+    → begun.start ≡ sink_state taken broken a → begun.text ≡ [] → AddsOne begun text (λ l. IsText (record { text = l; status = status })) →
+    EndsWith text.start (sink_state taken broken b) text.text (Ok status) answer
     → Prints taken broken a b answer IsText
 ends_one {K} {IsText} taken broken a b {begun} {text} {status} {answer} start none added e =
     let same : text.text ≡ added.text = added.adds.text ∙ ap (λ l. l ++ added.text) none in
-    ends_prints IsText taken broken a b text status answer e (added.adds.start ∙ start) (subst (λ (l : List ℕ). IsText (record { text = l; status = status })) (sym same) added.is_text)
+    let now = sink_state taken broken b in
+    let from : EndsWith (sink_state taken broken a) now text.text (Ok status) answer = subst (λ (s : SinkState). EndsWith s now text.text (Ok status) answer) (added.adds.start ∙ start) e in
+    ends_prints IsText taken broken a b (record { text = added.text; status = status }) answer added.is_text
+    (subst (λ (l : List ℕ). EndsWith (sink_state taken broken a) now l (Ok status) answer) same from)
 
--- the end of a run whose command has told one of these texts, or nothing
-pub tells_prints : {K : Type 0} {IsText : Written → Type 0} (taken : K → Taken) (broken : K → Bool) (a b : K) {begun text : Progress} {told : Result Status AllocError} {answer : Result Status RunError}
-    → begun.start ≡ mark_of taken broken a → begun.now ≡ mark_of taken broken a → begun.text ≡ [] → Tells begun text told IsText → Answers text told (mark_of taken broken b) answer
+-- the end of a run whose command has added one of these texts, or nothing
+pub written_prints : {K : Type 0} {IsText : Written → Type 0} (taken : K → Taken) (broken : K → Bool) (a b : K) {begun text : Progress} {added : Result Status AllocError} {answer : Result Status RunError}
+    → begun.start ≡ sink_state taken broken a → begun.sink ≡ sink_state taken broken a → begun.text ≡ [] → AddsWritten begun text added IsText →
+    Answers text added (sink_state taken broken b) answer
     → Prints taken broken a b answer IsText
-tells_prints taken broken a b {told = Ok status} start now none t h = ends_one taken broken a b start none t.text h.ends
-tells_prints taken broken a b {told = Err e} start now none t h =
-    let same : mark_of taken broken b ≡ mark_of taken broken a = h.lacks.1 ∙ ap (λ (p : Progress). p.now) t.nothing ∙ now in
+written_prints taken broken a b {added = Ok status} start now none t h = ends_one taken broken a b start none t.text h.ends
+written_prints taken broken a b {added = Err e} start now none t h =
+    let same : sink_state taken broken b ≡ sink_state taken broken a = h.lacks.1 ∙ ap (λ (p : Progress). p.sink) t.nothing ∙ now in
     rw h.lacks.0 (record {
       text = tt;
       write = λ e. cc e;
       read = λ e. cc e;
-      memory = λ e. ap (λ (m : Mark). m.taken) same;
-      sink = λ other. ap (λ (m : Mark). m.broken) same;
+      memory = λ e. ap (λ (s : SinkState). s.taken) same;
+      sink = λ other. ap (λ (s : SinkState). s.broken) same;
     })
 
--- what is told of the status is answered with it
-ended_status : (IsStatus : Status → Type 0) (status : Status) (wrote : Result (Unit {0}) Failed) (answer : Result Status RunError) → answer ≡ finished wrote status → IsStatus status → IfOk answer IsStatus
-ended_status IsStatus status (Ok done) answer is h = rw is h
-ended_status IsStatus status (Err e) answer is h = rw is tt
+-- what holds of the status of what was added holds of the one that is answered
+ended_status : (IsStatus : Status → Type 0) (old new : SinkState) (text : List ℕ) (status : Status) (answer : Result Status RunError) → IsStatus status → EndsWith old new text (Ok status) answer →
+    IfOk answer IsStatus
+ended_status IsStatus old new text status (Ok answered) is e =
+    let same : answered ≡ status = cc (e.out (λ h. cc h)).0 in
+    subst IsStatus (sym same) is
+ended_status IsStatus old new text status (Err e) is h = tt
 
-pub told_status : (IsStatus : Status → Type 0) {text : Progress} {told : Result Status AllocError} {now : Mark} {answer : Result Status RunError} → IfOk told IsStatus → Answers text told now answer → IfOk answer IsStatus
-told_status IsStatus {told = Ok status} {answer} is h = ended_status IsStatus status h.ends.wrote answer h.ends.answers is
-told_status IsStatus {told = Err e} is h = rw h.lacks.0 tt
+pub written_status : (IsStatus : Status → Type 0) {text : Progress} {added : Result Status AllocError} {now : SinkState} {answer : Result Status RunError} → IfOk added IsStatus →
+    Answers text added now answer → IfOk answer IsStatus
+written_status IsStatus {text} {added = Ok status} {now} {answer} is h = ended_status IsStatus text.start now text.text status answer is h.ends
+written_status IsStatus {added = Err e} is h = rw h.lacks.0 tt
 
 -- one of these texts is one of more
-pub tells_also : {IsText IsAlso : Written → Type 0} {a b : Progress} {told : Result Status AllocError} → ((w : Written) → IsText w → IsAlso w) → Tells a b told IsText → Tells a b told IsAlso
-tells_also {told = Ok status} also t = record { text = added_also (λ text is. also (record { text = text; status = status }) is) t.text; nothing = tt }
-tells_also {told = Err e} also t = record { text = tt; nothing = t.nothing }
+pub written_also : {IsText IsAlso : Written → Type 0} {a b : Progress} {added : Result Status AllocError} → ((w : Written) → IsText w → IsAlso w) → AddsWritten a b added IsText →
+    AddsWritten a b added IsAlso
+written_also {added = Ok status} also t = record { text = added_also (λ text is. also (record { text = text; status = status }) is) t.text; nothing = tt }
+written_also {added = Err e} also t = record { text = tt; nothing = t.nothing }
 
 -- what prints one of these texts prints one of more
 pub prints_also : {K : Type 0} (IsText IsAlso : Written → Type 0) (taken : K → Taken) (broken : K → Bool) (a b : K) (outcome : Result Status RunError)

@@ -19,7 +19,7 @@ use Rattle.rip_check.specs.declared.verdict.Place2.{Place2}
 use Rattle.rip_check.specs.declared.verdict.Verdict.{Verdict}
 use Rattle.rip_report.specs.AuditText.{AllFailing, FailingText, IsJudged, UnsettledLine, fails, holds, a_settled as settled_verdict, an_unclear as unclear_verdict, an_unsettled as unsettled_verdict, settled_line, unclear_line, unsettled_line}
 use Rattle.rip_report.specs.ExplainText.{BeginsWithVerdict, ExplainText, Explains, ExplainsAll, PlaceLines, a_settled, an_unclear, an_unsettled}
-use Rattle.rip_report.specs.Finished.{Tells}
+use Rattle.rip_report.specs.Finished.{AddsWritten}
 use Rattle.rip_report.specs.Listings.{TextsBelow}
 use Rattle.rip_report.specs.Outs.{Progress}
 use Rattle.rip_report.specs.Sent.{WentOut}
@@ -77,9 +77,9 @@ explained n s all v w j (a_settled lines right under) = rw (j.settled.1 right) a
 explained n s all v w j (an_unclear trouble text first h) = rw ((j.unclear trouble).1 first) at (judged n s v j)
 explained n s all v w j (an_unsettled f text shows first h) = rw ((j.unsettled f).1 (shows, first)) at (judged n s v j)
 
-pub explained_told : {n : Network} {s : State} {all : Bool} {a b : Progress} {told : Result Status AllocError} (v : Verdict) → Judges n s v → Tells a b told (ExplainText n s all) → IfOk told (IsJudged n s)
-explained_told {n} {s} {all} {told = Ok status} v j t = explained n s all v (record { text = t.text.text; status = status }) j t.text.is_text
-explained_told {told = Err e} v j t = tt
+pub explained_written : {n : Network} {s : State} {all : Bool} {a b : Progress} {told : Result Status AllocError} (v : Verdict) → Judges n s v → AddsWritten a b told (ExplainText n s all) → IfOk told (IsJudged n s)
+explained_written {n} {s} {all} {told = Ok status} v j t = explained n s all v (record { text = t.text.text; status = status }) j t.text.is_text
+explained_written {told = Err e} v j t = tt
 
 -- a run without `all` has written a text that begins with the verdict
 pub begins_out : (n : Network) (s : State) (all : Bool) (a b : Taken) (outcome : Result Status RunError) → all ≡ false → IfOk outcome (WentOut (ExplainText n s all) a b) →

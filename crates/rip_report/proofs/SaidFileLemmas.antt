@@ -5,11 +5,11 @@ use Rattle.rip_log.specs.Lines.{Capture as Captured}
 use Rattle.rip_log.specs.Logs.{Numbered}
 use Rattle.rip_log.specs.LogText.{EndsLine, LogText}
 use Rattle.rip_log.specs.Taken.{Taken, Took}
+use Rattle.rip_report.specs.Finished.{EndsWith}
 use Rattle.rip_report.specs.CaptureLogs.{AddsFile, File, FileText, Follows, HasDatagrams, HaveDatagrams, IsFile, LogOf, SaysFiles, SoFar, answer_so_far, worse}
 use Rattle.rip_report.specs.CaptureLogs.LogOf.{all, stopped}
 use Rattle.rip_report.specs.CaptureLogs.SoFar.{none, more}
-use Rattle.rip_report.specs.CapturePackets.{EndsWith}
-use Rattle.rip_report.specs.Outs.{mark_of}
+use Rattle.rip_report.specs.Sent.{sink_state}
 use Rattle.rip_report.specs.Statuses.{fault_line_of}
 use Rattle.rip_report.specs.Written.{line}
 use Rattle.rip_report.specs.declared.captures.authentication.Authentication.{Authentication}
@@ -77,7 +77,7 @@ module _ (laws : FileLaws) where
       )
 
   pub failure-says : {K : Type 0} (taken : K → Taken) (broken : K → Bool) (old new : K) (error : RunError) (result : Result Status RunError) → error ≢ Write
-      → EndsWith (mark_of taken broken old) (mark_of taken broken new) (line (fault_line_of error)) (Err error) result → (how : Authentication) (files : List File) (text : List ℕ) (status : Status) (file : File)
+      → EndsWith (sink_state taken broken old) (sink_state taken broken new) (line (fault_line_of error)) (Err error) result → (how : Authentication) (files : List File) (text : List ℕ) (status : Status) (file : File)
       → SaysFiles how files text (Ok status) → result ≢ Err Write
       → (part : List ℕ) × Took (taken old) (taken new) part × SaysFiles how (files ++ file ∷ []) (text ++ part) result
   failure-says taken broken old new error result good ends how files text status file says wrote =

@@ -5,7 +5,7 @@ use Rattle.std.proofs.lemmas.List.{take-append-drop}
 use Rattle.rip_log.specs.Taken.{Taken, Took}
 use Rattle.rip_log.proofs.TakenLemmas.{Took-both, Took-none}
 use Rattle.rip_log.specs.declared.device.Failed.{Failed}
-use Rattle.rip_report.specs.Sent.{Sent, Began, Writes}
+use Rattle.rip_report.specs.Sent.{Sent, Began, SinkState, Writes}
 
 -- nothing has gone out yet
 pub Sent-none : (t : Taken) (text : List ℕ) → Sent t t text text
@@ -69,23 +69,20 @@ Began-more a b c text held more s t = Began-all a b c (text ++ more) (held ++ mo
 -- ---- A call that writes, after one that did not fail
 
 -- what was held, and more, is written next
-pub Writes-more : {K : Type 0} (taken : K → Taken) (broken : K → Bool) (a b c : K) (done : Unit {0}) (r : Result (Unit {0}) Failed) (text held more left : List ℕ) →
-    Writes taken broken a b (Ok done) text held
-    → Writes taken broken b c r (held ++ more) left → Writes taken broken a c r (text ++ more) left
-Writes-more taken broken a b c done r text held more left w v = record {
-  ok = on_ok_weaker r (Sent-more (taken a) (taken b) (taken c) text held more left w.ok) v.ok;
-  err = on_err_weaker r (Began-more (taken a) (taken b) (taken c) text held more w.ok) v.err;
+pub Writes-more : (a b c : SinkState) (done : Unit {0}) (r : Result (Unit {0}) Failed) (text held more left : List ℕ) → Writes a b (Ok done) text held → Writes b c r (held ++ more) left →
+    Writes a c r (text ++ more) left
+Writes-more a b c done r text held more left w v = record {
+  ok = on_ok_weaker r (Sent-more a.taken b.taken c.taken text held more left w.ok) v.ok;
+  err = on_err_weaker r (Began-more a.taken b.taken c.taken text held more w.ok) v.err;
   failed = v.failed;
-  marks = λ h. v.marks h ∙ w.marks refl;
+  kept = λ h. v.kept h ∙ w.kept refl;
 }
 
 -- what was held is written, and nothing more
-pub Writes-held : {K : Type 0} (taken : K → Taken) (broken : K → Bool) (a b c : K) (done : Unit {0}) (r : Result (Unit {0}) Failed) (text held left : List ℕ) →
-    Writes taken broken a b (Ok done) text held
-    → Writes taken broken b c r held left → Writes taken broken a c r text left
-Writes-held taken broken a b c done r text held left w v = record {
-  ok = on_ok_weaker r (Sent-then (taken a) (taken b) (taken c) text held left w.ok) v.ok;
-  err = on_err_weaker r (Began-all (taken a) (taken b) (taken c) text held w.ok) v.err;
+pub Writes-held : (a b c : SinkState) (done : Unit {0}) (r : Result (Unit {0}) Failed) (text held left : List ℕ) → Writes a b (Ok done) text held → Writes b c r held left → Writes a c r text left
+Writes-held a b c done r text held left w v = record {
+  ok = on_ok_weaker r (Sent-then a.taken b.taken c.taken text held left w.ok) v.ok;
+  err = on_err_weaker r (Began-all a.taken b.taken c.taken text held w.ok) v.err;
   failed = v.failed;
-  marks = λ h. v.marks h ∙ w.marks refl;
+  kept = λ h. v.kept h ∙ w.kept refl;
 }

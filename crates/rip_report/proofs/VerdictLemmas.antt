@@ -11,7 +11,7 @@ use Rattle.rip_check.specs.declared.verdict.Unclear.TheVariants.{NotHeard, TwoMe
 use Rattle.rip_check.specs.declared.verdict.Verdict.{Verdict}
 use Rattle.rip_check.specs.declared.verdict.Verdict.TheVariants as verdicts
 use Rattle.rip_report.specs.Lines.{IsKnownReason}
-use Rattle.rip_report.specs.AuditText.{AnswersRightly, IsJudged, IsTroubleOf, ShowsPlainRightTables, UnsettledLines, VerdictText, a_settled, an_unclear, an_unsettled, settled_line, unclear_line, verdict_status}
+use Rattle.rip_report.specs.AuditText.{AnswersRightly, IsJudged, IsKnownTrouble, ShowsPlainRightTables, UnsettledLines, VerdictText, a_settled, an_unclear, an_unsettled, settled_line, unclear_line, verdict_status}
 use Rattle.rip_report.specs.Written.{Written}
 use Rattle.rip_report.specs.declared.status.Status.{Status}
 use Rattle.rip_report.specs.declared.status.Status.TheVariants.{Refused, Settled, Unsettled, Unclear as IsUnclear}
@@ -28,7 +28,7 @@ attached_known : (n : Network) (r p l : ℕ) → IsLawful n → IsAttached n r p
 attached_known n r p l lawful attached = let (c, (i, is)) = lawful.attached_there r p l attached in lawful.link_known i r l c is
 
 -- what a trouble names is known
-pub known_trouble : (n : Network) (s : State) (trouble : Unclear) → IsLawful n → IsFirstTrouble n (told n s) trouble → IsTroubleOf n s trouble
+pub known_trouble : (n : Network) (s : State) (trouble : Unclear) → IsLawful n → IsFirstTrouble n (told n s) trouble → IsKnownTrouble n s trouble
 known_trouble n s (NotHeard r l) lawful h = (lawful.router_known h.interface r l h.cost h.its, lawful.link_known h.interface r l h.cost h.its)
 known_trouble n s (TwoMetrics r p) lawful (heard, h) = (rw h.reason.0 h.first.router, rw h.reason.1 h.first.prefix)
 known_trouble n s (Missing r p l) lawful (heard, h) = (rw h.reason.0 h.first.router, rw h.reason.1 h.first.prefix, lawful.link_known h.reason.3.interface h.router l h.reason.3.cost h.reason.3.its)
@@ -44,7 +44,7 @@ known_reason n s r p (ShownOn t q l) lawful h = attached_known n r p l lawful h.
 known_reason n s r p (TwoWays t q) lawful h = tt
 
 -- the router, the prefix and the link of a reason are known
-pub reason_known : (n : Network) (s : State) (r p : ℕ) (trouble : Unclear) → IsLawful n → r < length n.routers → p < length s.prefixes → IsReason n (told n s) r p trouble → IsTroubleOf n s trouble
+pub reason_known : (n : Network) (s : State) (r p : ℕ) (trouble : Unclear) → IsLawful n → r < length n.routers → p < length s.prefixes → IsReason n (told n s) r p trouble → IsKnownTrouble n s trouble
 reason_known n s r p (NotHeard t l) lawful router prefix h = absurd h
 reason_known n s r p (TwoMetrics t q) lawful router prefix h = (rw h.0 router, rw h.1 prefix)
 reason_known n s r p (Missing t q l) lawful router prefix h = (rw h.0 router, rw h.1 prefix, lawful.link_known h.3.interface r l h.3.cost h.3.its)

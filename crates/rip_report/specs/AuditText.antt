@@ -93,14 +93,14 @@ subject_part n s (ShownOn r p l) = place_part n s r p
 subject_part n s (TwoWays r p) = place_part n s r p
 
 -- the router, the prefix and the link of a trouble are known
-abbrev pub IsTroubleOf : Network → State → Unclear → Type 0
-IsTroubleOf n s (NotHeard r l) = (r < length n.routers) × (l < length n.links)
-IsTroubleOf n s (TwoMetrics r p) = (r < length n.routers) × (p < length s.prefixes)
-IsTroubleOf n s (Missing r p l) =
+abbrev pub IsKnownTrouble : Network → State → Unclear → Type 0
+IsKnownTrouble n s (NotHeard r l) = (r < length n.routers) × (l < length n.links)
+IsKnownTrouble n s (TwoMetrics r p) = (r < length n.routers) × (p < length s.prefixes)
+IsKnownTrouble n s (Missing r p l) =
     (r < length n.routers) × (p < length s.prefixes) × (l < length n.links)
-IsTroubleOf n s (ShownOn r p l) =
+IsKnownTrouble n s (ShownOn r p l) =
     (r < length n.routers) × (p < length s.prefixes) × (l < length n.links)
-IsTroubleOf n s (TwoWays r p) = (r < length n.routers) × (p < length s.prefixes)
+IsKnownTrouble n s (TwoWays r p) = (r < length n.routers) × (p < length s.prefixes)
 
 -- `unclear: router r1 link a: not heard`, or a place and why its route can't be read
 unfoldable pub unclear_line : Network → State → Unclear → List ℕ

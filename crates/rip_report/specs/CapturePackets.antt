@@ -13,8 +13,9 @@ use Rattle.rip_capture.specs.declared.packet.Carried.{Carried}
 use Rattle.rip_capture.specs.declared.reader.CaptureReader.{CaptureReader}
 use Rattle.rip_report.specs.CaptureText.{Carrier, IsCarrier, carried_line, comment_line, counted, counted_status, counts_of, file_refusal_line, has_line, line_count, omitted_of, one, packet_lines}
 use Rattle.rip_report.specs.CaptureLogs.{Follows}
-use Rattle.rip_report.specs.Outs.{Adds, Mark, Progress}
-use Rattle.rip_report.specs.Sent.{Began}
+use Rattle.rip_report.specs.Finished.{EndsWith}
+use Rattle.rip_report.specs.Outs.{Adds, Progress}
+use Rattle.rip_report.specs.Sent.{Began, SinkState}
 use Rattle.rip_report.specs.Written.{line}
 use Rattle.rip_report.specs.declared.captures.authentication.Authentication.{Authentication}
 use Rattle.rip_report.specs.declared.captures.ending.Ending.{Ending}
@@ -116,15 +117,8 @@ pub record LogsPackets {R : Type 0} (given : R → List ℕ) (coming : R → Opt
 
 -- ---- the end of a run
 
--- a run that wrote a text, and then ends with this answer, or with Write where the sink has failed
-pub record EndsWith (old new : Mark) (text : List ℕ) (answer result : Result Status RunError)
-    : Type 0 where
-  pub out : result ≢ Err Write → (result ≡ answer) × Took old.taken new.taken text
-  pub write : result ≡ Err Write → (new.broken ≡ true) × Began old.taken new.taken text
-  pub sink : result ≢ Err Write → new.broken ≡ old.broken
-
 -- what the last line of a file leaves, behind the text of its packets
-abbrev pub ClosesFile : Mark → Mark → CaptureLog → CaptureLog → List ℕ → List ℕ → Ending →
+abbrev pub ClosesFile : SinkState → SinkState → CaptureLog → CaptureLog → List ℕ → List ℕ → Ending →
     Result Status RunError → Type 0
 ClosesFile old new before after link text (Whole tally) result =
     EndsWith old new (text ++ comment_line (before.files + 1) link tally.counts)

@@ -1,22 +1,13 @@
 -- Text on its way to a sink.
 use Rattle.std.specs.Prelude.{◌≡◌, ℕ, Bool, List, [], ◌∷◌, ◌++◌, Option, Some, None, Result}
-use Rattle.rip_log.specs.Taken.{Taken}
 use Rattle.rip_log.specs.declared.device.Failed.{Failed}
-use Rattle.rip_report.specs.Sent.{Writes}
-
--- how a sink stands: what it has taken, and whether it has failed
-pub record Mark : Type 0 where
-  pub taken : Taken
-  pub broken : Bool
-
-abbrev pub mark_of : {K : Type 0} → (K → Taken) → (K → Bool) → K → Mark
-mark_of taken broken k = record { taken = taken k; broken = broken k }
+use Rattle.rip_report.specs.Sent.{SinkState, Writes}
 
 -- how far a text has come: how the sink stood before it and stands now, all that was added, and
 -- whether a write has failed
 pub record Progress : Type 0 where
-  pub start : Mark
-  pub now : Mark
+  pub start : SinkState
+  pub sink : SinkState
   pub text : List ℕ
   pub failed : Bool
 
@@ -37,6 +28,10 @@ noted [] = []
 noted (Some text ∷ later) = text ++ noted later
 noted (None ∷ later) = noted later
 
--- between two marks of a sink the text was written, but for what is left
-abbrev pub Stands : Mark → Mark → Result (Unit {0}) Failed → List ℕ → List ℕ → Type 0
-Stands start now wrote text left = Writes (λ m. m.taken) (λ m. m.broken) start now wrote text left
+-- more text was taken: where all text before was written but for what was held, all is written but
+-- for what is held now
+abbrev pub TakesMore : SinkState → Result (Unit {0}) Failed → List ℕ → SinkState →
+    Result (Unit {0}) Failed → List ℕ → List ℕ → Type 0
+TakesMore old before held_before new after held_after more =
+    (start : SinkState) (text : List ℕ) → Writes start old before text held_before →
+    Writes start new after (text ++ more) held_after

@@ -7,6 +7,14 @@ use Rattle.rip_report.specs.declared.status.Status.{Status}
 use Rattle.rip_report.specs.declared.status.RunError.{RunError}
 use Rattle.rip_report.specs.declared.status.RunError.TheVariants.{Read, Write, Memory}
 
+-- how a sink stands: what it has taken, and whether it has failed
+pub record SinkState : Type 0 where
+  pub taken : Taken
+  pub broken : Bool
+
+abbrev pub sink_state : {K : Type 0} → (K → Taken) → (K → Bool) → K → SinkState
+sink_state taken broken k = record { taken = taken k; broken = broken k }
+
 -- nothing was taken
 abbrev pub Keeps : Taken → Taken → Type 0
 Keeps old new = new ≡ old
@@ -22,20 +30,14 @@ pub record Began (old new : Taken) (text : List ℕ) : Type 0 where
   pub left : List ℕ
   pub sent : Sent old new text left
 
--- what a call leaves that writes a text: all but `left` went out; or the sink has failed, and a
--- beginning went out
-pub record Writes
-    {K : Type 0}
-    (taken : K → Taken)
-    (broken : K → Bool)
-    (old new : K)
-    (result : Result (Unit {0}) Failed)
-    (text left : List ℕ)
+-- between two states of a sink a text was written: all but `left` went out; or the sink has
+-- failed, and a beginning went out
+pub record Writes (old new : SinkState) (result : Result (Unit {0}) Failed) (text left : List ℕ)
     : Type 0 where
-  pub ok : OnOk result (Sent (taken old) (taken new) text left)
-  pub err : OnErr result (Began (taken old) (taken new) text)
-  pub failed : is_err result ≡ true → broken new ≡ true
-  pub marks : is_err result ≡ false → broken new ≡ broken old
+  pub ok : OnOk result (Sent old.taken new.taken text left)
+  pub err : OnErr result (Began old.taken new.taken text)
+  pub failed : is_err result ≡ true → new.broken ≡ true
+  pub kept : is_err result ≡ false → new.broken ≡ old.broken
 
 -- the whole of one of these texts went out, and its status is the one that is answered
 abbrev pub WentOut : (Written → Type 0) → Taken → Taken → Status → Type 0
@@ -63,5 +65,5 @@ pub record Prints
   -- with Read and with Memory nothing went out
   pub read : result ≡ Err Read → Keeps (taken old) (taken new)
   pub memory : result ≡ Err Memory → Keeps (taken old) (taken new)
-  -- every other answer leaves the sink's mark as it was
+  -- after every other answer it has failed only where it had before
   pub sink : result ≢ Err Write → broken new ≡ broken old

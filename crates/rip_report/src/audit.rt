@@ -7,7 +7,7 @@ ghost use Rattle.rip_table.specs.State.{Fits, State};
 ghost use Rattle.rip_check.specs.Marks.{AreUnsettled};
 ghost use Rattle.rip_check.specs.Verdicts.{IsVerdict, IsNextUnsettled};
 ghost use Rattle.rip_report.specs.AuditText.{AnswersRightly, AuditText, FailingText, IsJudged, ShowsPlainRightTables, UnsettledLine, UnsettledLines, VerdictText, verdict_status};
-ghost use Rattle.rip_report.specs.Finished.{Tells};
+ghost use Rattle.rip_report.specs.Finished.{AddsWritten};
 ghost use Rattle.rip_report.specs.Given.{IsGiven};
 ghost use Rattle.rip_report.specs.Outs.{AddsOne};
 ghost use Rattle.rip_report.specs.ReportText.{AreRead, IsAccepted};
@@ -135,7 +135,7 @@ fn add_audit<T: MetricTable, K: Sink>(
     all: bool,
 ) -> Result<Status, AllocError>
     requires { Fits plan.now (T.state table.now) }
-    ensures tells { Tells out.old out.new result (VerdictText plan.now (T.state table.now) all) }
+    ensures adds { AddsWritten out.old out.new result (VerdictText plan.now (T.state table.now) all) }
     ensures memory { is_err result ≡ true →
         (all ≡ true) × IsJudged plan.now (T.state table.now) Status.Unsettled }
     ensures judged { IfOk result (IsJudged plan.now (T.state table.now)) }

@@ -9,14 +9,15 @@ mod packets;
 mod tally;
 
 ghost use Rattle.std.specs.Prelude.{◌≡◌, ◌≢◌, ◌⊎◌, ◌+◌, ◌^◌, ◌<◌, ◌≤◌, ◌++◌, ◌∷◌, [], ℕ, List, Some, Err, Ok, length, true};
+ghost use Rattle.rip_report.specs.Finished.{EndsWith};
 ghost use Rattle.rip_report.specs.CaptureLogs.{AddsFile, AddsUnread, File, GoesOn, IsLogOf, LogOf, SaysFiles, answer_so_far, authentication_of, status_of, worse};
 ghost use Rattle.rip_log.specs.declared.limits.TheConstants.{MOST_LINES};
-ghost use Rattle.rip_report.specs.CapturePackets.{ClosesFile, EndsWith};
+ghost use Rattle.rip_report.specs.CapturePackets.{ClosesFile};
 ghost use Rattle.rip_log.specs.Taken.{Took};
 ghost use Rattle.rip_log.specs.Wholes.{Went};
 ghost use Rattle.rip_wire.specs.Name.{IsName};
 ghost use Rattle.rip_report.specs.Given.{IsGiven};
-ghost use Rattle.rip_report.specs.Outs.{mark_of};
+ghost use Rattle.rip_report.specs.Sent.{sink_state};
 ghost use Rattle.rip_report.specs.Statuses.{fault_line_of};
 ghost use Rattle.rip_report.specs.Written.{line};
 ghost use Rattle.rip_report.specs.declared.captures.authentication.Authentication.{Authentication};
@@ -49,17 +50,6 @@ fn worse(before: Status, status: Status) -> Status
     }
 }
 
-/// Sends what is left, and ends with this answer, or with Write where the sink has failed.
-fn end_with<K: Sink>(out: Out<K>, answer: Result<Status, RunError>) -> (K, Result<Status, RunError>)
-    requires { answer ≢ Err RunError.Write }
-    ensures { EndsWith out.start (mark_of K.taken K.broken result.0) out.text answer result.1 }
-{
-    match out.finish() {
-        (sink, Ok(())) => (sink, answer),
-        (sink, Err(Failed)) => (sink, Err(RunError::Write)),
-    }
-}
-
 /// Adds the comment of a file, and tells the log of it.
 fn close_whole<K: Sink>(
     log: &mut CaptureLog,
@@ -69,13 +59,13 @@ fn close_whole<K: Sink>(
 ) -> (K, Result<Status, RunError>)
     requires later { log.old.lines ≤ tally.lines }
     requires room { tally.lines < MOST_LINES }
-    ensures closes { ClosesFile out.start (mark_of K.taken K.broken result.0) log.old log.new
+    ensures closes { ClosesFile out.start (sink_state K.taken K.broken result.0) log.old log.new
         link.now out.text (Ending.Whole tally) result.1 }
     ensures authentication { authentication_of log.new ≡ authentication_of log.old }
 {
     let number = log.files + 1;
     push_comment(&mut out, number, link, &tally.counts);
-    let (sink, answer) = end_with(out, Ok(tally.counts.status()));
+    let (sink, answer) = out.finish_with(Ok(tally.counts.status()));
     if let Ok(status) = answer {
         *log = CaptureLog {
             authentication: log.authentication,
@@ -97,7 +87,7 @@ fn close_file<K: Sink>(
     requires whole { (tally : Tally) → ending ≡ Ending.Whole tally →
         (log.old.lines ≤ tally.lines) × (tally.lines < MOST_LINES) }
     requires unwritten { ending ≡ Ending.Unwritten → out.failed ≡ true }
-    ensures closes { ClosesFile out.start (mark_of K.taken K.broken result.0) log.old log.new
+    ensures closes { ClosesFile out.start (sink_state K.taken K.broken result.0) log.old log.new
         link.now out.text ending result.1 }
     ensures authentication { authentication_of log.new ≡ authentication_of log.old }
 {
@@ -105,11 +95,11 @@ fn close_file<K: Sink>(
         Ending::Whole(tally) => close_whole(log, link, tally, out),
         Ending::Refused { code, at } => {
             push_file_refusal_line(&mut out, log.files + 1, link, code, at);
-            end_with(out, Ok(Status::Refused))
+            out.finish_with(Ok(Status::Refused))
         }
         Ending::Unread => {
             out.push("failed: read\n");
-            end_with(out, Err(RunError::Read))
+            out.finish_with(Err(RunError::Read))
         }
         Ending::Unwritten => {
             let (sink, _) = out.finish();
@@ -122,7 +112,7 @@ fn close_file<K: Sink>(
 /// one: a file could not be opened, or there is no memory for one. The sink comes back.
 pub fn log_failure<K: Sink>(error: RunError, out: K) -> (K, Result<Status, RunError>)
     requires { error ≢ RunError.Write }
-    ensures ends { EndsWith (mark_of K.taken K.broken out) (mark_of K.taken K.broken result.0)
+    ensures ends { EndsWith (sink_state K.taken K.broken out) (sink_state K.taken K.broken result.0)
         (line (fault_line_of error)) (Err error) result.1 }
     // Behind a log of files it makes the log that ends with one more, whatever that is.
     ensures goes_on { (log : CaptureLog) (files : List File) (text : List ℕ) (file : File) →
@@ -141,7 +131,7 @@ pub fn log_failure<K: Sink>(error: RunError, out: K) -> (K, Result<Status, RunEr
     let mut text = Out::new(out);
     text.push(fault_line(&error));
     text.end();
-    end_with(text, Err(error))
+    text.finish_with(Err(error))
 }
 
 /// Writes what a log has of a capture file of a link, behind the files that were written before: a

@@ -112,16 +112,16 @@ pub fn run_decode<K: Sink>(hex: &str, out: K) -> (K, Result<Status, RunError>)
     match bytes_of_hex(hex.as_bytes(), &mut room) {
         None => {
             text.push("refused: hex\n");
-            text.finish_with(Status::Refused)
+            text.finish_with(Ok(Status::Refused))
         }
         Some(bytes) => match read(bytes) {
             Ok(datagram) => {
                 push_datagram(&mut text, &datagram);
-                text.finish_with(Status::Done)
+                text.finish_with(Ok(Status::Done))
             }
             Err(error) => {
                 push_fault_line(&mut text, error);
-                text.finish_with(Status::Refused)
+                text.finish_with(Ok(Status::Refused))
             }
         },
     }

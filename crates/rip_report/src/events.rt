@@ -4,7 +4,7 @@ ghost use Rattle.std.specs.Prelude.{◌≡◌, ◌≢◌, [], ℕ, Err, IfOk, Li
 ghost use Rattle.rip_plan.specs.Network.{Network};
 ghost use Rattle.rip_table.specs.Events.{EventAt};
 ghost use Rattle.rip_table.specs.State.{Fits, State, new_state};
-ghost use Rattle.rip_report.specs.Finished.{Tells};
+ghost use Rattle.rip_report.specs.Finished.{AddsWritten};
 ghost use Rattle.rip_report.specs.Given.{IsGiven};
 ghost use Rattle.rip_report.specs.Hearings.{EventsOf, EventsText, OfAccepted};
 ghost use Rattle.rip_report.specs.ReportText.{IsAccepted};
@@ -43,7 +43,7 @@ pub(crate) trait EventReport<L: Listener> {
         requires fits { Fits plan.now (T.state table.now) }
         requires suits { L.suits plan.now listener.now }
         ensures { (events : List EventAt) → L.holds listener.now events →
-            Tells out.old out.new result (is_text self.now plan.now events (T.state table.now)) };
+            AddsWritten out.old out.new result (is_text self.now plan.now events (T.state table.now)) };
 }
 
 /// Writes what a command tells of a table, and of what a listener has heard.
@@ -63,8 +63,8 @@ fn write_events<C: EventReport<L>, L: Listener, T: MetricTable, K: Sink>(
     ensures read { result.1 ≢ Err RunError.Read }
 {
     let mut text = Out::new(out);
-    let told = command.add(alloc, &mut text, plan, table, listener);
-    text.answer(told)
+    let added = command.add(alloc, &mut text, plan, table, listener);
+    text.answer(added)
 }
 
 /// Writes the report on a log by its plan. The table is new, and the listener has heard nothing.

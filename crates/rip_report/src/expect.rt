@@ -13,7 +13,7 @@ ghost use Rattle.rip_report.specs.Sent.{Prints};
 use crate::loops::{NumberText, add_below};
 use crate::names::{push_counts, push_router, push_way};
 use crate::output::Out;
-use crate::report::{PlanReport, report_plan};
+use crate::report::{PlanReport, run_plan_report};
 use crate::status::{RunError, Status};
 use rip_check::{Expected, Way};
 use rip_log::Sink;
@@ -202,5 +202,5 @@ pub fn run_expect<K: Sink>(alloc: Global, plan: &[u8], out: K) -> (K, Result<Sta
     ensures read { result.1 ≢ Err RunError.Read }
     ensures no_text { IsNoText plan.now → result.1 ≢ Err RunError.Memory }
 {
-    report_plan(alloc, &Expect, plan, out)
+    run_plan_report(alloc, &Expect, plan, out)
 }

@@ -7,7 +7,7 @@ mod troubles;
 ghost use Rattle.std.specs.Prelude.{◌≡◌, ◌↔◌, ℕ, Bool, List, IfOk, None, false, true, Some};
 ghost use Rattle.rip_plan.specs.Network.{Network};
 ghost use Rattle.rip_plan.specs.Relations.{IsPlain};
-ghost use Rattle.rip_report.specs.Finished.{Tells};
+ghost use Rattle.rip_report.specs.Finished.{AddsWritten};
 ghost use Rattle.rip_report.specs.Given.{IsGiven};
 ghost use Rattle.rip_table.specs.State.{Fits, State};
 ghost use Rattle.rip_check.specs.Expected.{AreExpected};
@@ -68,7 +68,7 @@ fn add_settled<T: MetricTable, K: Sink>(
     requires fits { Fits plan.now (T.state table.now) }
     requires right { ShowsRightTables plan.now (told plan.now (T.state table.now)) }
     ensures { (all : Bool) →
-        Tells out.old out.new result (ExplainText plan.now (T.state table.now) all) }
+        AddsWritten out.old out.new result (ExplainText plan.now (T.state table.now) all) }
 {
     let expected = Expected::find(alloc, plan)?;
     push_settled_line(out, plan, table);
@@ -100,7 +100,7 @@ fn add_places<T: MetricTable, K: Sink>(
     table: &T,
 ) -> Result<Status, AllocError>
     requires { Fits plan.now (T.state table.now) }
-    ensures { Tells out.old out.new result (λ w.
+    ensures { AddsWritten out.old out.new result (λ w.
         AllFailing plan.now (T.state table.now) (PlaceLines plan.now (T.state table.now)) w.text
         × (w.status ≡ Status.Unsettled)) }
 {
@@ -122,7 +122,7 @@ fn add_unsettled<T: MetricTable, K: Sink>(
     requires fits { Fits plan.now (T.state table.now) }
     requires shows { ShowsTables plan.now (told plan.now (T.state table.now)) }
     requires first { IsNextUnsettled plan.now (told plan.now (T.state table.now)) None first.now }
-    ensures { Tells out.old out.new result (ExplainText plan.now (T.state table.now) all) }
+    ensures { AddsWritten out.old out.new result (ExplainText plan.now (T.state table.now) all) }
 {
     if all {
         return add_places(alloc, out, plan, table);
@@ -140,7 +140,7 @@ fn add_explained<T: MetricTable, K: Sink>(
     all: bool,
 ) -> Result<Status, AllocError>
     requires { Fits plan.now (T.state table.now) }
-    ensures tells { Tells out.old out.new result (ExplainText plan.now (T.state table.now) all) }
+    ensures adds { AddsWritten out.old out.new result (ExplainText plan.now (T.state table.now) all) }
     ensures judged { IfOk result (IsJudged plan.now (T.state table.now)) }
 {
     plan.lawful();

@@ -1,9 +1,10 @@
 //! Text on its way to a sink.
 
 ghost use Rattle.std.specs.Prelude.{◌≡◌, ◌≢◌, ◌∷◌, ◌++◌, [], true, false, decimal, is_err, Err};
-ghost use Rattle.rip_report.specs.Finished.{Answers, Ends};
+ghost use Rattle.rip_report.specs.Finished.{Answers, EndsWith};
 ghost use Rattle.rip_report.specs.Names.{numbered};
-ghost use Rattle.rip_report.specs.Outs.{Adds, Stands, mark_of};
+ghost use Rattle.rip_report.specs.Outs.{Adds};
+ghost use Rattle.rip_report.specs.Sent.{Writes, sink_state};
 ghost use Rattle.rip_wire.specs.Address.{address_text};
 ghost use Rattle.rip_wire.specs.Prefix.{prefix_text};
 
@@ -37,26 +38,27 @@ pub(crate) struct Out<K: Sink> {
 impl<K: Sink> Model for Out<K> {
     ghost use Rattle.std.specs.Prelude.{is_err};
     ghost use Rattle.rip_report.specs.Held.{held};
-    ghost use Rattle.rip_report.specs.Outs.{Progress, Stands, mark_of, noted};
+    ghost use Rattle.rip_report.specs.Outs.{Progress, noted};
+    ghost use Rattle.rip_report.specs.Sent.{Writes, sink_state};
 
     ghost Value = { Progress };
 
     ghost view = { λ o. record {
-      start = mark_of K.taken K.broken o.start.value;
-      now = mark_of K.taken K.broken o.sink;
+      start = sink_state K.taken K.broken o.start.value;
+      sink = sink_state K.taken K.broken o.sink;
       text = noted o.added.outcomes;
       failed = is_err o.wrote;
     } };
 
-    ghost invariant = { λ o. Stands (mark_of K.taken K.broken o.start.value)
-        (mark_of K.taken K.broken o.sink) o.wrote (noted o.added.outcomes) (held o.page) };
+    ghost invariant = { λ o. Writes (sink_state K.taken K.broken o.start.value)
+        (sink_state K.taken K.broken o.sink) o.wrote (noted o.added.outcomes) (held o.page) };
 }
 
 impl<K: Sink> Out<K> {
     /// No text yet, on its way to this sink.
     pub(crate) fn new(sink: K) -> Out<K>
-        ensures start { result.start ≡ mark_of K.taken K.broken sink }
-        ensures now { result.now ≡ mark_of K.taken K.broken sink }
+        ensures start { result.start ≡ sink_state K.taken K.broken sink }
+        ensures sink { result.sink ≡ sink_state K.taken K.broken sink }
         ensures text { result.text ≡ [] }
         ensures failed { result.failed ≡ false }
     {
@@ -78,7 +80,7 @@ impl<K: Sink> Out<K> {
         self.page.push(&mut self.sink, &mut self.wrote, bytes);
     }
 
-    /// Adds three parts at once, for a loop that adds very many.
+    /// Adds three parts, at once where the page has room, for a loop that adds very many.
     pub(crate) fn push_parts(&mut self, front: &[u8], middle: &[u8], end: &[u8])
         ensures { Adds self.old self.new (front.now ++ (middle.now ++ end.now)) }
     {
@@ -148,7 +150,7 @@ impl<K: Sink> Out<K> {
 
     /// Sends what is left. The sink comes back, and whether all text went out.
     pub(crate) fn finish(self) -> (K, Result<(), Failed>)
-        ensures stands { Stands self.start (mark_of K.taken K.broken result.0) result.1 self.text [] }
+        ensures writes { Writes self.start (sink_state K.taken K.broken result.0) result.1 self.text [] }
         ensures failed { self.failed ≡ true → is_err result.1 ≡ true }
     {
         let Out {
@@ -166,33 +168,35 @@ impl<K: Sink> Out<K> {
         }
     }
 
-    /// Sends what is left, and ends a run with this status, or with Write where the sink has failed.
-    pub(crate) fn finish_with(self, status: Status) -> (K, Result<Status, RunError>)
-        ensures ends { Ends self status (mark_of K.taken K.broken result.0) result.1 }
-        ensures read { result.1 ≢ Err RunError.Read }
-        ensures memory { result.1 ≢ Err RunError.Memory }
+    /// Sends what is left, and ends a run with this answer, or with Write where the sink has failed.
+    pub(crate) fn finish_with(
+        self,
+        answer: Result<Status, RunError>,
+    ) -> (K, Result<Status, RunError>)
+        requires { answer ≢ Err RunError.Write }
+        ensures { EndsWith self.start (sink_state K.taken K.broken result.0) self.text answer
+            result.1 }
     {
         match self.finish() {
-            (sink, Ok(())) => (sink, Ok(status)),
+            (sink, Ok(())) => (sink, answer),
             (sink, Err(Failed)) => (sink, Err(RunError::Write)),
         }
     }
 
     /// The sink, where no text is to go out.
     fn take_back(self) -> K
-        ensures { mark_of K.taken K.broken result ≡ self.now }
+        ensures { sink_state K.taken K.broken result ≡ self.sink }
     {
         self.sink
     }
 
-    /// Ends a run by what a command has told: with its status, or with Memory where it told
+    /// Ends a run by what a command has added: with its status, or with Memory where it added
     /// nothing.
-    pub(crate) fn answer(self, told: Result<Status, AllocError>) -> (K, Result<Status, RunError>)
-        ensures answers { Answers self told (mark_of K.taken K.broken result.0) result.1 }
-        ensures read { result.1 ≢ Err RunError.Read }
+    pub(crate) fn answer(self, added: Result<Status, AllocError>) -> (K, Result<Status, RunError>)
+        ensures { Answers self added (sink_state K.taken K.broken result.0) result.1 }
     {
-        match told {
-            Ok(status) => self.finish_with(status),
+        match added {
+            Ok(status) => self.finish_with(Ok(status)),
             Err(_) => (self.take_back(), Err(RunError::Memory)),
         }
     }

@@ -2,20 +2,18 @@
 
 ghost use Rattle.std.specs.Prelude.{◌≡◌, ◌+◌, ◌≤◌, ◌++◌, [], ℕ, List, length};
 ghost use Rattle.rip_report.specs.declared.page.TheConstants.{PAGE_BYTES};
-ghost use Rattle.rip_report.specs.Outs.{Mark, Stands, mark_of};
-ghost use Rattle.rip_report.specs.Sent.{Writes};
+ghost use Rattle.rip_report.specs.Outs.{TakesMore};
+ghost use Rattle.rip_report.specs.Sent.{SinkState, Writes, sink_state};
 
 use rip_log::{Failed, Sink};
 
 /// The bytes of a page.
 const PAGE_BYTES: usize = 4_096;
 
-/// The most bytes of a part that is added with others.
-const PART_BYTES: usize = 1_024;
-
 /// Writes all bytes. Where the sink fails, a beginning of them is out.
 pub(crate) fn write_all<K: Sink>(out: &mut K, bytes: &[u8]) -> Result<(), Failed>
-    ensures { Writes K.taken K.broken out.old out.new result bytes.now [] }
+    ensures { Writes (sink_state K.taken K.broken out.old) (sink_state K.taken K.broken out.new)
+        result bytes.now [] }
 {
     let mut at = 0;
     'pieces: while at < bytes.len() {
@@ -26,9 +24,8 @@ pub(crate) fn write_all<K: Sink>(out: &mut K, bytes: &[u8]) -> Result<(), Failed
 
 /// Writes all bytes, unless a write before has failed.
 fn send<K: Sink>(out: &mut K, wrote: &mut Result<(), Failed>, bytes: &[u8])
-    ensures { (start : Mark) (text : List ℕ) →
-        Stands start (mark_of K.taken K.broken out.old) wrote.old text [] →
-        Stands start (mark_of K.taken K.broken out.new) wrote.new (text ++ bytes.now) [] }
+    ensures { TakesMore (sink_state K.taken K.broken out.old) wrote.old []
+        (sink_state K.taken K.broken out.new) wrote.new [] bytes.now }
 {
     if wrote.is_ok() {
         *wrote = write_all(out, bytes);
@@ -69,7 +66,8 @@ impl Page {
 
     /// Sends what the page holds.
     pub(crate) fn flush<K: Sink>(&mut self, out: &mut K) -> Result<(), Failed>
-        ensures writes { Writes K.taken K.broken out.old out.new result (held self.old) [] }
+        ensures writes { Writes (sink_state K.taken K.broken out.old)
+            (sink_state K.taken K.broken out.new) result (held self.old) [] }
         ensures empty { held self.new ≡ [] }
         ensures room { self.new.used ≡ 0 }
     {
@@ -80,9 +78,9 @@ impl Page {
 
     /// Sends what the page holds, unless a write before has failed: then it is lost.
     fn clear<K: Sink>(&mut self, out: &mut K, wrote: &mut Result<(), Failed>)
-        ensures stands { (start : Mark) (text : List ℕ) →
-            Stands start (mark_of K.taken K.broken out.old) wrote.old text (held self.old) →
-            Stands start (mark_of K.taken K.broken out.new) wrote.new text (held self.new) }
+        ensures writes { (start : SinkState) (text : List ℕ) →
+            Writes start (sink_state K.taken K.broken out.old) wrote.old text (held self.old) →
+            Writes start (sink_state K.taken K.broken out.new) wrote.new text [] }
         ensures empty { held self.new ≡ [] }
         ensures room { self.new.used ≡ 0 }
     {
@@ -96,10 +94,8 @@ impl Page {
     /// Adds bytes that there is no room for: sends what the page holds before them.
     #[inline(never)]
     fn push_behind<K: Sink>(&mut self, out: &mut K, wrote: &mut Result<(), Failed>, bytes: &[u8])
-        ensures { (start : Mark) (text : List ℕ) →
-            Stands start (mark_of K.taken K.broken out.old) wrote.old text (held self.old) →
-            Stands start (mark_of K.taken K.broken out.new) wrote.new
-            (text ++ bytes.now) (held self.new) }
+        ensures { TakesMore (sink_state K.taken K.broken out.old) wrote.old (held self.old)
+            (sink_state K.taken K.broken out.new) wrote.new (held self.new) bytes.now }
     {
         self.clear(out, wrote);
         if bytes.len() > PAGE_BYTES {
@@ -117,10 +113,8 @@ impl Page {
         wrote: &mut Result<(), Failed>,
         bytes: &[u8],
     )
-        ensures { (start : Mark) (text : List ℕ) →
-            Stands start (mark_of K.taken K.broken out.old) wrote.old text (held self.old) →
-            Stands start (mark_of K.taken K.broken out.new) wrote.new
-            (text ++ bytes.now) (held self.new) }
+        ensures { TakesMore (sink_state K.taken K.broken out.old) wrote.old (held self.old)
+            (sink_state K.taken K.broken out.new) wrote.new (held self.new) bytes.now }
     {
         if bytes.len() > PAGE_BYTES - self.used {
             self.push_behind(out, wrote, bytes);
@@ -129,7 +123,7 @@ impl Page {
         }
     }
 
-    /// Adds three parts at once, for a loop that adds very many.
+    /// Adds three parts, at once where the page has room, for a loop that adds very many.
     pub(crate) fn push_parts<K: Sink>(
         &mut self,
         out: &mut K,
@@ -138,14 +132,13 @@ impl Page {
         middle: &[u8],
         end: &[u8],
     )
-        ensures { (start : Mark) (text : List ℕ) →
-            Stands start (mark_of K.taken K.broken out.old) wrote.old text (held self.old) →
-            Stands start (mark_of K.taken K.broken out.new) wrote.new
-            (text ++ (front.now ++ (middle.now ++ end.now))) (held self.new) }
+        ensures { TakesMore (sink_state K.taken K.broken out.old) wrote.old (held self.old)
+            (sink_state K.taken K.broken out.new) wrote.new (held self.new)
+            (front.now ++ (middle.now ++ end.now)) }
     {
-        if front.len() > PART_BYTES
-            || middle.len() > PART_BYTES
-            || end.len() > PART_BYTES
+        if front.len() > PAGE_BYTES
+            || middle.len() > PAGE_BYTES
+            || end.len() > PAGE_BYTES
             || front.len() + middle.len() + end.len() > PAGE_BYTES - self.used
         {
             self.push(out, wrote, front);

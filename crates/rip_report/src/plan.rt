@@ -8,7 +8,7 @@ ghost use Rattle.rip_report.specs.Sent.{Prints};
 
 use crate::names::{push_link, push_router};
 use crate::output::Out;
-use crate::report::{PlanReport, report_plan};
+use crate::report::{PlanReport, run_plan_report};
 use crate::status::{RunError, Status};
 use rip_log::Sink;
 use rip_plan::{Interface, Place, Plan, Seat};
@@ -228,5 +228,5 @@ pub fn run_plan<K: Sink>(alloc: Global, plan: &[u8], out: K) -> (K, Result<Statu
     ensures read { result.1 ≢ Err RunError.Read }
     ensures no_text { IsNoText plan.now → result.1 ≢ Err RunError.Memory }
 {
-    report_plan(alloc, &ShowPlan, plan, out)
+    run_plan_report(alloc, &ShowPlan, plan, out)
 }

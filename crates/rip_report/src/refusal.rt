@@ -122,5 +122,5 @@ pub(crate) fn refuse_log<K: Sink>(error: CollectError, out: K) -> (K, Result<Sta
 {
     let mut text = Out::new(out);
     push_refusal_line(&mut text, error);
-    text.finish_with(Status::Refused)
+    text.finish_with(Ok(Status::Refused))
 }

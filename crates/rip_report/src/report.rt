@@ -2,7 +2,7 @@
 
 ghost use Rattle.std.specs.Prelude.{◌≡◌, ◌≢◌, Err, IfOk, ℕ, List, Some};
 ghost use Rattle.rip_plan.specs.Network.{Network};
-ghost use Rattle.rip_report.specs.Finished.{Tells};
+ghost use Rattle.rip_report.specs.Finished.{AddsWritten};
 ghost use Rattle.rip_report.specs.Given.{IsGiven};
 ghost use Rattle.rip_table.specs.State.{Fits, State, new_state};
 ghost use Rattle.rip_table.specs.declared.error.CollectError.{CollectError};
@@ -37,11 +37,11 @@ pub(crate) trait PlanReport {
         out: &mut Out<K>,
         plan: &Plan,
     ) -> Result<Status, AllocError>
-        ensures { Tells out.old out.new result (is_text self.now plan.now) };
+        ensures { AddsWritten out.old out.new result (is_text self.now plan.now) };
 }
 
 /// Writes the report on the plan in a TOML document, or why it is refused. The sink comes back.
-pub(crate) fn report_plan<C: PlanReport, K: Sink>(
+pub(crate) fn run_plan_report<C: PlanReport, K: Sink>(
     alloc: Global,
     command: &C,
     plan: &[u8],
@@ -56,8 +56,8 @@ pub(crate) fn report_plan<C: PlanReport, K: Sink>(
     match Plan::read(alloc, plan) {
         Ok(plan) => {
             let mut text = Out::new(out);
-            let told = command.add(alloc, &mut text, &plan);
-            text.answer(told)
+            let added = command.add(alloc, &mut text, &plan);
+            text.answer(added)
         }
         Err(error) => refuse_plan(error, out),
     }
@@ -82,7 +82,7 @@ pub(crate) trait Report {
         table: &T,
     ) -> Result<Status, AllocError>
         requires { Fits plan.now (T.state table.now) }
-        ensures tells { Tells out.old out.new result
+        ensures adds { AddsWritten out.old out.new result
             (is_text self.now plan.now (T.state table.now)) }
         ensures meaning { IfOk result (means self.now plan.now (T.state table.now)) };
 }
@@ -102,8 +102,8 @@ fn write_report<C: Report, T: MetricTable, K: Sink>(
     ensures read { result.1 ≢ Err RunError.Read }
 {
     let mut text = Out::new(out);
-    let told = command.add(alloc, &mut text, plan, table);
-    text.answer(told)
+    let added = command.add(alloc, &mut text, plan, table);
+    text.answer(added)
 }
 
 /// Writes the report on a log by its plan, or what refuses the log. The table is new.

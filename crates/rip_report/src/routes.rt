@@ -4,7 +4,7 @@ ghost use Rattle.std.specs.Prelude.{◌+◌, ◌<◌, ◌==◌, IfNone, IfOk, If
 ghost use Rattle.rip_plan.specs.Network.{Network};
 ghost use Rattle.rip_check.specs.Cases.{network_of, state_of};
 ghost use Rattle.rip_report.specs.AnywayText.{AnywayRoutes};
-ghost use Rattle.rip_report.specs.Finished.{Tells};
+ghost use Rattle.rip_report.specs.Finished.{AddsWritten};
 ghost use Rattle.rip_report.specs.Given.{IsGiven};
 ghost use Rattle.rip_report.specs.Hearings.{RoutesAnyway};
 ghost use Rattle.rip_table.specs.Tallies.{counts_of};
@@ -218,7 +218,7 @@ fn add_routes<T: MetricTable, K: Sink>(
     left_out: Counts,
 ) -> Result<Status, AllocError>
     requires { Fits plan.now (T.state table.now) }
-    ensures { Tells out.old out.new result (AnywayRoutes plan.now (T.state table.now) left_out) }
+    ensures { AddsWritten out.old out.new result (AnywayRoutes plan.now (T.state table.now) left_out) }
 {
     let expected = Expected::find(alloc, plan)?;
     push_counts_line(out, plan, table);

@@ -15,7 +15,7 @@ ghost use Rattle.rip_report.specs.WhatifText.{FailureText, FailureTexts, LineOfG
 use crate::loops::{NumberText, add_below};
 use crate::names::{push_link, push_router};
 use crate::output::Out;
-use crate::report::{PlanReport, report_plan};
+use crate::report::{PlanReport, run_plan_report};
 use crate::status::{RunError, Status};
 use rip_check::{Aftermath, Expected, Failure, Impact, Losses};
 use rip_log::Sink;
@@ -335,5 +335,5 @@ pub fn run_whatif<K: Sink>(
     ensures read { result.1 ≢ Err RunError.Read }
     ensures no_text { IsNoText plan.now → result.1 ≢ Err RunError.Memory }
 {
-    report_plan(alloc, &WhatIf { all }, plan, out)
+    run_plan_report(alloc, &WhatIf { all }, plan, out)
 }

@@ -3,7 +3,7 @@
 ghost use Rattle.std.specs.Prelude.{◌<◌, Decides, IsTrue, length, ℕ};
 ghost use Rattle.rip_plan.specs.Relations.{IsInterface};
 ghost use Rattle.rip_table.specs.State.{Fits};
-ghost use Rattle.rip_report.specs.AuditText.{IsTroubleOf};
+ghost use Rattle.rip_report.specs.AuditText.{IsKnownTrouble};
 ghost use Rattle.rip_report.specs.ExplainText.{AllTroubles, HeardLine, HeardLines, TroubleLines, UnclearText, UnderTrouble, UnheardLines, UnreadLines};
 ghost use Rattle.rip_report.specs.Outs.{AddsOne};
 
@@ -70,7 +70,7 @@ fn add_heard<T: MetricTable, K: Sink>(out: &mut Out<K>, plan: &Plan, table: &T, 
 /// Adds what a trouble comes from.
 fn add_under<T: MetricTable, K: Sink>(out: &mut Out<K>, plan: &Plan, table: &T, trouble: &Unclear)
     requires fits { Fits plan.now (T.state table.now) }
-    requires trouble { IsTroubleOf plan.now (T.state table.now) trouble.now }
+    requires trouble { IsKnownTrouble plan.now (T.state table.now) trouble.now }
     ensures { AddsOne out.old out.new (UnderTrouble plan.now (T.state table.now) trouble.now) }
 {
     match *trouble {
@@ -87,7 +87,7 @@ fn add_under<T: MetricTable, K: Sink>(out: &mut Out<K>, plan: &Plan, table: &T, 
 /// Adds the line of a trouble, and what it comes from.
 fn add_trouble<T: MetricTable, K: Sink>(out: &mut Out<K>, plan: &Plan, table: &T, trouble: &Unclear)
     requires fits { Fits plan.now (T.state table.now) }
-    requires trouble { IsTroubleOf plan.now (T.state table.now) trouble.now }
+    requires trouble { IsKnownTrouble plan.now (T.state table.now) trouble.now }
     ensures { AddsOne out.old out.new (TroubleLines plan.now (T.state table.now) trouble.now) }
 {
     push_unclear_line(out, plan, table, trouble);
@@ -164,7 +164,7 @@ pub(crate) fn add_unclear<T: MetricTable, K: Sink>(
     first: &Unclear,
 )
     requires fits { Fits plan.now (T.state table.now) }
-    requires first { IsTroubleOf plan.now (T.state table.now) first.now }
+    requires first { IsKnownTrouble plan.now (T.state table.now) first.now }
     ensures { AddsOne out.old out.new (UnclearText plan.now (T.state table.now) all first.now) }
 {
     if all {

@@ -1,7 +1,7 @@
 //! The lines of verdicts.
 
 ghost use Rattle.std.specs.Prelude.{◌≡◌, ◌+◌, ◌<◌, length};
-ghost use Rattle.rip_report.specs.AuditText.{AreKnown, IsTroubleOf, interface_part, leaf_part, leaves_of, metric_part, place_part, settled_line, subject_part, unclear_line, unsettled_line, unsettled_part, wrong_way_part};
+ghost use Rattle.rip_report.specs.AuditText.{AreKnown, IsKnownTrouble, interface_part, leaf_part, leaves_of, metric_part, place_part, settled_line, subject_part, unclear_line, unsettled_line, unsettled_part, wrong_way_part};
 ghost use Rattle.rip_report.specs.Lines.{IsKnownReason, reason_part};
 ghost use Rattle.rip_report.specs.Names.{IsKnownWay};
 ghost use Rattle.rip_report.specs.Outs.{Adds};
@@ -149,7 +149,7 @@ fn push_subject<T: MetricTable, K: Sink>(
     table: &T,
     trouble: &Unclear,
 )
-    requires known { IsTroubleOf plan.now (T.state table.now) trouble.now }
+    requires known { IsKnownTrouble plan.now (T.state table.now) trouble.now }
     ensures { Adds out.old out.new (subject_part plan.now (T.state table.now) trouble.now) }
 {
     match *trouble {
@@ -189,7 +189,7 @@ pub(crate) fn push_unclear_line<T: MetricTable, K: Sink>(
     table: &T,
     trouble: &Unclear,
 )
-    requires { IsTroubleOf plan.now (T.state table.now) trouble.now }
+    requires { IsKnownTrouble plan.now (T.state table.now) trouble.now }
     ensures { Adds out.old out.new (unclear_line plan.now (T.state table.now) trouble.now) }
 {
     out.push("unclear: ");

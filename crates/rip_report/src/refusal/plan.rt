@@ -89,5 +89,5 @@ pub(crate) fn refuse_plan<K: Sink>(error: PlanError, out: K) -> (K, Result<Statu
     }
     let mut text = Out::new(out);
     push_fault_line(&mut text, error);
-    text.finish_with(Status::Refused)
+    text.finish_with(Ok(Status::Refused))
 }

@@ -18,8 +18,8 @@ returns-clause-judged g c =
     let meant = judged n s c.judge-verdict.result (record { settled = e.settled; unsettled = e.unsettled; unclear = e.unclear; no_tables = e.no_tables; arrive = e.arrive }) in
     subst (IsJudged n s) (sym c.status_of.ensures) meant
 
-pub returns-clause-tells : goal.returns-clause-tells
-returns-clause-tells g c =
+pub returns-clause-adds : goal.returns-clause-adds
+returns-clause-adds g c =
     let n = c.args.plan.now in
     let s = g.T.MetricTable.state c.args.table.now in
     record {

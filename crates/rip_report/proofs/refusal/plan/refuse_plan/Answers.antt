@@ -5,4 +5,4 @@ use Rattle.rip_report.proofs.refusal.plan.refuse_plan.Goals as goal
 
 pub returns-clause-prints : goal.returns-clause-prints
 returns-clause-prints g c = ends_one g.K.Sink.taken g.K.Sink.broken c.args.out c.finish_with.result.0 c.new-text.ensures.start c.new-text.ensures.text
-    (adds_one refl c.push_fault_line.ensures) c.finish_with.ensures.ends
+    (adds_one refl c.push_fault_line.ensures) c.finish_with.ensures

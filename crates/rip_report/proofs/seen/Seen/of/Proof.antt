@@ -30,7 +30,7 @@ use denote.Triple.Entry.{alive}
 use denote.Triple.Spec.{Meets, triple_of}
 use denote.Triple.Table.{entered}
 use denote.Triple.Walked.{says, Stays, stay_dropped, walk_of, ends_at, walk_Meets, Goes-dropped}
-use Rattle.std.specs.contracts.marker.PhantomData as Mark
+use Rattle.std.specs.contracts.marker.PhantomData as SinkState
 use Rattle.rip_report.specs.contracts.seen.Seen as Seen
 use Rattle.rip_report.specs.contracts.seen.Seen.of as F
 use Rattle.rip_report.specs.contracts.seen.Seen.of.Key.{name as #self}
@@ -91,8 +91,8 @@ module _ (A : RattleType) where
           enter ! C Λ function (p ∷ []) Post $ alloc_all ! (λ l. pass_all ! refl ((tt, tt), tt) $
           sets ! (agg ! (no_more !)) refl (tt, tt) $
           sets ! (agg ! (and_then ! (get ! refl) (no_more !))) refl (tt, (tt, tt)) $
-          nothing ! $ owned ! (Mark.the_row (param 0 A)) (Is (Mark.the_row (param 0 A))) (makes (Mark.the_type (param 0 A)) tt 𝓛) (record {}) (none ∷ []) (tt, (refl, tt)) $
-          one_made ! (Mark.the_row (param 0 A)) (record {}) none $ fjoin ! $
+          nothing ! $ owned ! (SinkState.the_row (param 0 A)) (Is (SinkState.the_row (param 0 A))) (makes (SinkState.the_type (param 0 A)) tt 𝓛) (record {}) (none ∷ []) (tt, (refl, tt)) $
+          one_made ! (SinkState.the_row (param 0 A)) (record {}) none $ fjoin ! $
           returns ! (look_at ! 0 refl) $ free_all ! refl $
           suffices ! _ (ends_at 𝓛 ended stayed held z (one none) made (tt, tt) (tt, tt)) $ says ! refl $
           nothing ! $ nothing ! $ fjoin ! $ move ! (2 ∷ 0 ∷ 1 ∷ []) $ done !))

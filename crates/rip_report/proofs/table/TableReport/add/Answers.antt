@@ -4,8 +4,8 @@ use Rattle.rip_report.proofs.AcceptedLemmas.{whole_text}
 use Rattle.rip_report.proofs.OutLemmas.{added_also}
 use Rattle.rip_report.proofs.table.TableReport.add.Goals as goal
 
-pub returns-clause-tells : goal.returns-clause-tells
-returns-clause-tells g c =
+pub returns-clause-adds : goal.returns-clause-adds
+returns-clause-adds g c =
     let n = c.args.plan.now in
     let s = g.T.MetricTable.state c.args.table.now in
     let first = table_line (length n.interfaces) (length s.prefixes) in

@@ -1,12 +1,12 @@
 use Rattle.rip_report.specs.PlanText.{OfPlan, a_fault, of_plan}
-use Rattle.rip_report.proofs.EndLemmas.{first_told, refused_prints, tells_also, tells_prints}
-use Rattle.rip_report.proofs.report.report_plan.Goals as goal
+use Rattle.rip_report.proofs.EndLemmas.{first_told, refused_prints, written_also, written_prints}
+use Rattle.rip_report.proofs.report.run_plan_report.Goals as goal
 
 pub returns-in-Ok-clause-prints : goal.returns-in-Ok-clause-prints
 returns-in-Ok-clause-prints g c =
     let begun = c.new-text.ensures in
-    let told = tells_also (λ w is. of_plan c.in-Ok.plan w c.in-Ok.ensures.no_fault c.in-Ok.ensures.plan is) c.add-told.ensures in
-    tells_prints g.K.Sink.taken g.K.Sink.broken c.args.out c.answer.result.0 begun.start begun.now begun.text told c.answer.ensures.answers
+    let told = written_also (λ w is. of_plan c.in-Ok.plan w c.in-Ok.ensures.no_fault c.in-Ok.ensures.plan is) c.add-added.ensures in
+    written_prints g.K.Sink.taken g.K.Sink.broken c.args.out c.answer.result.0 begun.start begun.sink begun.text told c.answer.ensures
 
 pub returns-in-Err-clause-prints : goal.returns-in-Err-clause-prints
 returns-in-Err-clause-prints g c =
