@@ -158,7 +158,7 @@ fn add_found<T: MetricTable, K: Sink>(
     }
 }
 
-/// The interfaces of a table that were not heard.
+/// Each interface of a table, where it was not heard.
 #[derive(Drop)]
 struct Unheard<'a, T: MetricTable> {
     plan: &'a Plan,

@@ -12,9 +12,10 @@ pub enum Status {
     Done,
     /// A place is named where the routes are not right.
     Unsettled,
-    /// The log does not show one set of tables, or a datagram in a capture file is not there whole.
+    /// The log does not show one set of tables; an interface was not heard, or not all of the log is
+    /// of the plan; or a datagram in a capture file is not there whole.
     Unclear,
-    /// A plan, a log, a datagram or a capture file is refused.
+    /// A plan, a log, a datagram or a capture file is refused, or a part of a log is left out.
     Refused,
 }
 

@@ -17,7 +17,7 @@ use rip_log::Sink;
 use rip_plan::Plan;
 use rip_table::MetricTable;
 
-/// The interfaces of a table that were heard.
+/// Each interface of a table, where it was heard.
 #[derive(Drop)]
 struct Heard<'a, T: MetricTable> {
     plan: &'a Plan,
@@ -94,7 +94,7 @@ fn add_trouble<T: MetricTable, K: Sink>(out: &mut Out<K>, plan: &Plan, table: &T
     add_under(out, plan, table, trouble);
 }
 
-/// The interfaces of a table that were not heard.
+/// Each interface of a table, where it was not heard.
 #[derive(Drop)]
 struct Unheard<'a, T: MetricTable> {
     plan: &'a Plan,
