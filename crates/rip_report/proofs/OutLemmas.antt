@@ -1,5 +1,5 @@
 -- What was written, after one text more.
-use Rattle.std.proofs.Common.{◌≡◌, ◌++◌, ◌∷◌, [], ℕ, Bool, true, false, List, Option, Some, None, Result, Ok, Err, is_ok, suc, ◌+◌, arith, refl, sym, ap, ◌∙◌, append_assoc, append-nil}
+use Rattle.std.proofs.Common.{◌≡◌, ◌++◌, ◌∷◌, [], ℕ, true, false, List, Option, Some, None, Result, Ok, Err, is_ok, suc, ◌+◌, arith, refl, sym, ap, ◌∙◌, append_assoc, append-nil}
 use Rattle.rip_report.specs.Listings.{TextsBelow}
 use Rattle.rip_report.specs.Outs.{Adds, AddsOne, Progress, noted}
 use Rattle.rip_report.specs.Sent.{SinkState, Writes}
