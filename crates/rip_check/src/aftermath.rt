@@ -161,7 +161,7 @@ pub struct Losses<'a> {
 impl Losses<'_> {
     /// Whether a prefix is gone: a router had it itself before the failure, and none has after it.
     pub fn is_gone(&self, prefix: usize) -> bool
-        requires losses { AreLosses self.now }
+        requires left { AreLeft self.now.plan.now self.now.failure self.now.after.now }
         requires prefix { prefix < length self.now.plan.now.prefixes }
         ensures { Decides result (IsGone self.now.plan.now self.now.failure prefix) }
     {

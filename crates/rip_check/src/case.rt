@@ -1,6 +1,6 @@
 //! A prefix of a table, by the plan.
 
-ghost use Rattle.std.specs.Prelude.{◌≡◌, ◌<◌, IfSome, length};
+ghost use Rattle.std.specs.Prelude.{◌≡◌, ◌<◌, IfSome, is_some, length, true};
 ghost use Rattle.rip_table.specs.State.{Fits};
 ghost use Rattle.rip_check.specs.Fitting.{Fits-prop};
 ghost use Rattle.rip_check.specs.Told.{told};
@@ -52,6 +52,8 @@ impl<'a, T: MetricTable> Case<'a, T> {
         ensures plan { result.plan.now ≡ self.now.plan.now }
         ensures table { result.table.now ≡ self.now.table.now }
         ensures prefix { result.prefix ≡ self.now.prefix }
+        ensures links { IfSome result.links (λ l. l.now ≡ links.now) }
+        ensures known { is_some result.links ≡ true }
     {
         Case {
             plan: self.plan,

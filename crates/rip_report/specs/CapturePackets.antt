@@ -1,5 +1,5 @@
 -- What the parts of a run leave that adds a file to a log.
-use Rattle.std.specs.Prelude.{◌≡◌, ◌≢◌, ◌⊎◌, ℕ, ◌+◌, ◌<◌, ◌≤◌, ◌++◌, ◌∷◌, [], ◌==◌, if◌then◌else◌, Bool, true, false, List, map, codes, Option, Result, Ok, Err}
+use Rattle.std.specs.Prelude.{◌≡◌, ◌≢◌, ◌⊎◌, ℕ, ◌+◌, ◌<◌, ◌≤◌, ◌++◌, ◌==◌, if◌then◌else◌, Bool, true, false, List, map, codes, Option, Result, Ok, Err}
 use Rattle.std.specs.List.{AllByRecursion}
 use Rattle.rip_log.specs.declared.limits.TheConstants.{MOST_LINES}
 use Rattle.rip_log.specs.Wholes.{Went}
@@ -88,16 +88,6 @@ EndsSo given at_end how before lines carriers new text Unwritten =
     (text.failed ≡ true)
     × ((taken : List ℕ) × Stands given before new taken (map (λ c. c.frame) carriers))
 
--- the sink did not take a line of the last of these packets, and had not failed before it
-pub record FailsAtLast (how : Authentication) (link : List ℕ) (carriers : List Carrier)
-    (before : Progress) : Type 0 where
-  pub front : List Carrier
-  pub last : Carrier
-  pub split : carriers ≡ front ++ last ∷ []
-  pub mid : Progress
-  pub adds : Adds before mid (packet_lines how link front)
-  pub sound : mid.failed ≡ false
-
 -- what logging the packets of a file leaves, and answers
 pub record LogsPackets {R : Type 0} (given : R → List ℕ) (coming : R → Option (List ℕ))
     (broken at_end : R → Bool) (how : Authentication) (link : List ℕ) (lines : ℕ)
@@ -110,9 +100,8 @@ pub record LogsPackets {R : Type 0} (given : R → List ℕ) (coming : R → Opt
   pub went : Went given coming at_end (source_of old) (source_of new)
   pub unread : ending ≡ Unread → (broken (source_of new) ≡ true) ⊎ IsFar new
   pub marks : ending ≢ Unread → broken (source_of new) ≡ broken (source_of old)
-  -- no packet is asked for behind the one at which the sink failed
-  pub stops : before.failed ≡ false → after.failed ≡ true →
-      (ending ≡ Unwritten) × FailsAtLast how link carriers before
+  -- where the sink fails, the reading ends there
+  pub stops : before.failed ≡ false → after.failed ≡ true → ending ≡ Unwritten
 
 -- ---- the end of a run
 

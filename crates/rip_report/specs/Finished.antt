@@ -16,8 +16,7 @@ pub record EndsWith (old new : SinkState) (text : List ℕ) (answer result : Res
   pub write : result ≡ Err Write → (new.broken ≡ true) × Began old.taken new.taken text
   pub sink : result ≢ Err Write → new.broken ≡ old.broken
 
--- one of these texts was added, and its status is the one that is answered; or nothing was, where
--- a growth was refused
+-- one of these texts was added, and its status is the one that is answered; or nothing was
 pub record AddsWritten (old new : Progress) (added : Result Status AllocError)
     (IsText : Written → Type 0) : Type 0 where
   pub text : IfOk added (λ status.

@@ -170,7 +170,8 @@ impl Report for Audit {
 
 /// Prints the verdict on a log by the plan in a TOML document, or why the plan or the log is
 /// refused. With `all` an unsettled network has one line for each place that does not hold. The
-/// source comes back. The log chooses the prefixes, so the hasher should be seeded at random.
+/// source and the sink come back. The log chooses the prefixes, so the hasher should be seeded at
+/// random.
 pub fn run_audit<R: Source, K: Sink, S: BuildHasher + Drop>(
     alloc: Global,
     plan: &[u8],

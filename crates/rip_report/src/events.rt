@@ -96,9 +96,9 @@ fn report_to<C: EventReport<L>, L: Listener, R: Source, K: Sink, T: MetricTable>
     }
 }
 
-/// Writes the report on a log by its plan, for a listener that has heard nothing. The source comes
-/// back. The log chooses the prefixes, so the hasher should be seeded at random. (Why so many
-/// arguments: DECISIONS.md.)
+/// Writes the report on a log by its plan, for a listener that has heard nothing. The source and
+/// the sink come back. The log chooses the prefixes, so the hasher should be seeded at random. (Why
+/// so many arguments: DECISIONS.md.)
 pub(crate) fn report_events<
     C: EventReport<L>,
     L: Listener,
@@ -128,7 +128,7 @@ pub(crate) fn report_events<
 }
 
 /// Writes the report on a log, of which it is counted what is left out, for the plan that the bytes
-/// of a TOML document are, or what refuses the plan. The source comes back.
+/// of a TOML document are, or what refuses the plan. The source and the sink come back.
 pub(crate) fn run_counted<C: EventReport<Counts>, R: Source, K: Sink, S: BuildHasher + Drop>(
     alloc: Global,
     command: &C,

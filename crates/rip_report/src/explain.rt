@@ -181,8 +181,8 @@ impl Report for Explain {
 /// routers cannot reach; under that of a place that does not hold, what the router shows, its
 /// route, its direct cost, each neighbour's offer, and the least metric of the plan; under that of
 /// a trouble, what was heard or shown there. With `all` each place that does not hold is told of,
-/// or each trouble of the kind of the first. The source comes back. The log chooses the prefixes,
-/// so the hasher should be seeded at random.
+/// or each trouble of the kind of the first. The source and the sink come back. The log chooses the
+/// prefixes, so the hasher should be seeded at random.
 pub fn run_explain<R: Source, K: Sink, S: BuildHasher + Drop>(
     alloc: Global,
     plan: &[u8],

@@ -128,10 +128,10 @@ impl<S: BuildHasher + Drop> EventReport<Tallies<S>> for Heard {
 
 /// Writes who is in a log, good or bad, and all that is refused in it, counted, by the plan that
 /// the bytes of a TOML document are; or what refuses the plan. The log is read to its end, whatever
-/// its lines say, up to line 1,000,001. The source comes back. The hashers are for the prefixes and
-/// for the strangers of the log, who choose their names, so a program hands in two that are seeded
-/// at random. `Done` where every interface was heard and nothing is refused, a stranger's or bad,
-/// and else `Unclear`.
+/// its lines say, up to line 1,000,001. The source and the sink come back. The hashers are for the
+/// prefixes and for the strangers of the log, who choose their names, so a program hands in two
+/// that are seeded at random. `Done` where every interface was heard and nothing is refused, a
+/// stranger's or bad, and else `Unclear`.
 pub fn run_heard<R: Source, K: Sink, S: BuildHasher + Drop>(
     alloc: Global,
     plan: &[u8],

@@ -265,9 +265,9 @@ impl EventReport<Counts> for Routes {
 }
 
 /// Prints the routes that a log shows, by the plan in a TOML document, or why the plan or the log
-/// is refused. The source comes back. The log chooses the prefixes, so the hasher should be seeded
-/// at random. It allocates a byte for each router and planned prefix, beside what `table`
-/// allocates.
+/// is refused. The source and the sink come back. The log chooses the prefixes, so the hasher
+/// should be seeded at random. It allocates a byte for each router and planned prefix, beside what
+/// `table` allocates.
 pub fn run_routes<R: Source, K: Sink, S: BuildHasher + Drop>(
     alloc: Global,
     plan: &[u8],
@@ -291,8 +291,9 @@ pub fn run_routes<R: Source, K: Sink, S: BuildHasher + Drop>(
 
 /// Prints the routes of what is not refused in a log, good or bad, with how much is left out, by
 /// the plan in a TOML document; or why the plan is refused. The log is read to its end, whatever
-/// its lines say, up to line 1,000,001. The source comes back. The log chooses the prefixes, so the
-/// hasher should be seeded at random. `Done` where nothing is left out, and else `Refused`.
+/// its lines say, up to line 1,000,001. The source and the sink come back. The log chooses the
+/// prefixes, so the hasher should be seeded at random. `Done` where nothing is left out, and else
+/// `Refused`.
 pub fn run_routes_anyway<R: Source, K: Sink, S: BuildHasher + Drop>(
     alloc: Global,
     plan: &[u8],

@@ -193,7 +193,8 @@ impl EventReport<Counts> for Table {
 }
 
 /// Prints the table of a log by the plan in a TOML document, or why the plan or the log is refused.
-/// The source comes back. The log chooses the prefixes, so the hasher should be seeded at random.
+/// The source and the sink come back. The log chooses the prefixes, so the hasher should be seeded
+/// at random.
 pub fn run_table<R: Source, K: Sink, S: BuildHasher + Drop>(
     alloc: Global,
     plan: &[u8],
@@ -218,8 +219,9 @@ pub fn run_table<R: Source, K: Sink, S: BuildHasher + Drop>(
 
 /// Prints the table of what is not refused in a log, good or bad, with how much is left out of it,
 /// by the plan in a TOML document; or why the plan is refused. The log is read to its end, whatever
-/// its lines say, up to line 1,000,001. The source comes back. The log chooses the prefixes, so the
-/// hasher should be seeded at random. `Done` where nothing is left out, and else `Refused`.
+/// its lines say, up to line 1,000,001. The source and the sink come back. The log chooses the
+/// prefixes, so the hasher should be seeded at random. `Done` where nothing is left out, and else
+/// `Refused`.
 pub fn run_table_anyway<R: Source, K: Sink, S: BuildHasher + Drop>(
     alloc: Global,
     plan: &[u8],

@@ -116,10 +116,7 @@ returns-then-has_failed g c =
       went = went_on S.given S.coming S.at_end (source_of c.args.reader.now) (source_of c.packets.reader) (source_of now) inv.went runs.moves.went;
       unread = λ e. cc e;
       marks = λ e. runs.moves.marks refl ∙ inv.marks;
-      stops = λ sound failed. (
-        refl,
-        record { front = cs; last = p; split = refl; mid = c.packets.out; adds = inv.adds; sound = inv.sound sound },
-      );
+      stops = λ sound failed. refl;
     }
 
 pub returns-in-Ok-None : goal.returns-in-Ok-None
