@@ -3,7 +3,7 @@ use Rattle.std.proofs.Common.{◌≡◌, ◌≢◌, ◌+◌, ◌/◌, ◌%◌, �
 use Rattle.std.proofs.lemmas.Bool.{eq-eqb, ne_eqb, lt-ltb, le-ltb}
 use Rattle.rip_wire.specs.Fields.{number_at}
 use Rattle.rip_capture.specs.Carries.{Carries}
-use Rattle.rip_capture.specs.Packets.{IpCarries, IsIpv4, IsUdp, IsToGroup, IsRip, IsWholeRip, IsGoodRip, IsCaptured, HasMore, destination, header_len, offset, port, source, total_len, udp_len}
+use Rattle.rip_capture.specs.Packets.{IpCarries, IsIpv4, IsUdp, IsToGroup, IsToRip, IsRip, IsWholeRip, IsGoodRip, IsCaptured, HasMore, destination, header_len, offset, port, source, source_port, total_len, udp_len}
 use Rattle.rip_capture.proofs.FrameLemmas.{Holds-one}
 use Rattle.rip_capture.specs.declared.frame.Network.{Network}
 use Rattle.rip_capture.specs.declared.frame.Network.TheVariants.{Ip, Short, Other}
@@ -30,10 +30,13 @@ told_whole place b =
 told_rip : ℕ → List ℕ → Carried
 told_rip place b = cond (eqb (number_at 2 6 b / 8192 % 2) 1) (Fragment (source b)) (told_whole place b)
 
+told_to_rip : ℕ → List ℕ → Carried
+told_to_rip place b = cond (eqb (source_port b) 520) (told_rip place b) Elsewhere
+
 told_first : ℕ → List ℕ → Carried
 told_first place b =
     cond (ltb (length b) (header_len b + 8)) (Cut (source b))
-    (cond (eqb (port b) 520) (told_rip place b) Others)
+    (cond (eqb (port b) 520) (told_to_rip place b) Others)
 
 told_group : ℕ → List ℕ → Carried
 told_group place b = cond (eqb (offset b) 0) (told_first place b) (Fragment (source b))
@@ -109,12 +112,16 @@ past_offset : (place : ℕ) (b : List ℕ) → IsToGroup b → offset b ≡ 0 �
 unfolding told_group
 past_offset place b h first = past_group place b h ∙ same (offset b) 0 (told_first place b) (Fragment (source b)) first
 
-past_rip : (place : ℕ) (b : List ℕ) → IsRip b → told place b ≡ told_rip place b
+past_port : (place : ℕ) (b : List ℕ) → IsToRip b → told place b ≡ told_to_rip place b
 unfolding told_first
-past_rip place b h =
+past_port place b h =
     past_offset place b h.to_group h.first
-    ∙ above (length b) (header_len b + 8) (Cut (source b)) (cond (eqb (port b) 520) (told_rip place b) Others) h.header
-    ∙ same (port b) 520 (told_rip place b) Others h.port
+    ∙ above (length b) (header_len b + 8) (Cut (source b)) (cond (eqb (port b) 520) (told_to_rip place b) Others) h.header
+    ∙ same (port b) 520 (told_to_rip place b) Others h.port
+
+past_rip : (place : ℕ) (b : List ℕ) → IsRip b → told place b ≡ told_rip place b
+unfolding told_to_rip
+past_rip place b h = past_port place b h.to_rip ∙ same (source_port b) 520 (told_rip place b) Elsewhere h.from
 
 past_whole : (place : ℕ) (b : List ℕ) → IsWholeRip b → told place b ≡ told_whole place b
 unfolding told_rip
@@ -161,7 +168,7 @@ told_cut : (place : ℕ) (b : List ℕ) (sender : ℕ) → sender ≡ source b
 unfolding told_first told_good
 told_cut place b sender is (inl h) =
     past_offset place b h.0 h.1
-    ∙ below (length b) (header_len b + 8) (Cut (source b)) (cond (eqb (port b) 520) (told_rip place b) Others) h.2
+    ∙ below (length b) (header_len b + 8) (Cut (source b)) (cond (eqb (port b) 520) (told_to_rip place b) Others) h.2
     ∙ ap Cut (sym is)
 told_cut place b sender is (inr h) =
     past_good place b h.0
@@ -200,9 +207,10 @@ unfolding told told_ipv4
 told_unknown place b (inl e) = above 0 (length b) (told_some place b) Unknown (omega (arith, ap length e))
 told_unknown place b (inr h) = past_ipv4 place b h.0 ∙ below (length b) 20 Unknown (told_header place b) h.1
 
-told_elsewhere : (place : ℕ) (b : List ℕ) → IpCarries place b Elsewhere → told place b ≡ Elsewhere
-unfolding told_udp told_away
-told_elsewhere place b h =
+told_elsewhere : (place : ℕ) (b : List ℕ) → (IsUdp b × (destination b ≢ 0xE0000009) × (offset b ≡ 0) × (header_len b + 4 ≤ length b) × (port b ≡ 520)) ⊎ (IsToRip b × (source_port b ≢ 520)) → told place b ≡ Elsewhere
+unfolding told_udp told_away told_to_rip
+told_elsewhere place b (inr h) = past_port place b h.0 ∙ differ (source_port b) 520 (told_rip place b) Elsewhere h.1
+told_elsewhere place b (inl h) =
     past_udp place b h.0
     ∙ differ (destination b) 0xE0000009 (told_group place b) (told_away b) h.1
     ∙ same (offset b) 0 (cond (ltb (length b) (header_len b + 4)) Others (cond (eqb (port b) 520) Elsewhere Others)) Others h.2
@@ -240,8 +248,8 @@ told_others place b (inr (inr (inl h))) =
     past_udp place b h.0 ∙ differ (destination b) 0xE0000009 (told_group place b) (told_away b) h.1 ∙ away_others b h.2
 told_others place b (inr (inr (inr h))) =
     past_offset place b h.0 h.1
-    ∙ above (length b) (header_len b + 8) (Cut (source b)) (cond (eqb (port b) 520) (told_rip place b) Others) h.2
-    ∙ differ (port b) 520 (told_rip place b) Others h.3
+    ∙ above (length b) (header_len b + 8) (Cut (source b)) (cond (eqb (port b) 520) (told_to_rip place b) Others) h.2
+    ∙ differ (port b) 520 (told_to_rip place b) Others h.3
 
 told_is : (place : ℕ) (b : List ℕ) (c : Carried) → IpCarries place b c → told place b ≡ c
 told_is place b (Datagram sender span) h = told_datagram place b sender span h

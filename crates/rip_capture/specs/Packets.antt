@@ -34,6 +34,10 @@ HasMore b = number_at 2 6 b / 8192 % 2 ≡ 1
 abbrev pub port : List ℕ → ℕ
 port b = number_at 2 (header_len b + 2) b
 
+-- the UDP port that it comes from
+abbrev pub source_port : List ℕ → ℕ
+source_port b = number_at 2 (header_len b) b
+
 -- the bytes of UDP's header and data
 abbrev pub udp_len : List ℕ → ℕ
 udp_len b = number_at 2 (header_len b + 4) b
@@ -55,12 +59,17 @@ pub record IsToGroup (b : List ℕ) : Type 0 where
   pub udp : IsUdp b
   pub group : destination b ≡ GROUP
 
--- RIP to the group, or the first fragment of it: the UDP header is there
-pub record IsRip (b : List ℕ) : Type 0 where
+-- UDP to RIP's port in the group, or the first fragment of it: the UDP header is there
+pub record IsToRip (b : List ℕ) : Type 0 where
   pub to_group : IsToGroup b
   pub first : offset b ≡ 0
   pub header : header_len b + UDP_HEADER ≤ length b
   pub port : port b ≡ PORT
+
+-- RIP: it comes from RIP's port too (RFC 2453, section 3.9.2)
+pub record IsRip (b : List ℕ) : Type 0 where
+  pub to_rip : IsToRip b
+  pub from : source_port b ≡ PORT
 
 -- the same in one packet
 pub record IsWholeRip (b : List ℕ) : Type 0 where
@@ -96,8 +105,9 @@ IpCarries place b (Fragment sender) =
     (sender ≡ source b) × ((IsToGroup b × (0 < offset b)) ⊎ (IsRip b × HasMore b))
 IpCarries place b Unknown = (b ≡ []) ⊎ (IsIpv4 b × (length b < IP_HEADER))
 IpCarries place b Elsewhere =
-    IsUdp b × (destination b ≢ GROUP) × (offset b ≡ 0)
-    × (header_len b + 4 ≤ length b) × (port b ≡ PORT)
+    (IsUdp b × (destination b ≢ GROUP) × (offset b ≡ 0)
+    × (header_len b + 4 ≤ length b) × (port b ≡ PORT))
+    ⊎ (IsToRip b × (source_port b ≢ PORT))
 IpCarries place b Others =
     ((0 < length b) × ((slice_index b 0 / 16 ≢ 4) ⊎ (slice_index b 0 % 16 < 5)))
     ⊎ ((IsIpv4 b × (IP_HEADER ≤ length b) × (slice_index b 9 ≢ UDP))

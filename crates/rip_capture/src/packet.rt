@@ -27,7 +27,8 @@ pub enum Carried {
     Long(Address),
     /// The capture lacks the headers that would tell.
     Unknown,
-    /// A datagram to another address.
+    /// A datagram to another address, or from another port than 520: routers pass over such a
+    /// response (RFC 2453, section 3.9.2).
     Elsewhere,
     /// Anything else.
     Others,
@@ -51,6 +52,9 @@ fn read_to_group(packet: &[u8], place: usize) -> Carried
     }
     if u16_at(packet, udp + 2) != PORT {
         return Carried::Others;
+    }
+    if u16_at(packet, udp) != PORT {
+        return Carried::Elsewhere;
     }
     if fragment / 8192 % 2 == 1 {
         return Carried::Fragment(sender);
@@ -103,8 +107,7 @@ fn read_packet(packet: &[u8], place: usize) -> Carried
 }
 
 /// What a frame of a link type carries. Lengths are those of the IPv4 and UDP headers (RFC 791, RFC
-/// 768), so padding behind them is left out; checksums, the source port and the TTL are not looked
-/// at.
+/// 768), so padding behind them is left out; checksums and the TTL are not looked at.
 pub fn read_frame(link_type: LinkType, frame: &[u8]) -> Carried
     ensures carries { Carries link_type frame.now result }
     // A datagram lies in the frame, and has at most 999 bytes.
