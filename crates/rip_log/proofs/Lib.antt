@@ -25,3 +25,5 @@ pub mod TakenLemmas
 pub mod LogSaidLemmas
 pub mod AdvanceLemmas
 pub mod TwoTextLemmas
+pub mod CalendarLemmas
+pub mod TimeLemmas

@@ -1,5 +1,6 @@
 pub mod Advances
 pub mod Asked
+pub mod Calendar
 pub mod Codes
 pub mod Cuts
 pub mod Ends
@@ -23,5 +24,6 @@ pub mod Said
 pub mod Spans
 pub mod Steps
 pub mod Taken
+pub mod Times
 pub mod Wholes
 pub mod Writers

@@ -1,8 +1,10 @@
-//! Laws of the definitions alone: functions that do nothing, whose contracts hold of every text and
-//! every log.
+//! Laws of the definitions alone: functions that do nothing, whose contracts hold of every text,
+//! every log and every time.
 
-ghost use Rattle.std.specs.Prelude.{◌≡◌, ◌⊎◌, ◌↔◌, ◌+◌, ◌^◌, ◌≤◌, ℕ, List, [], ◌∷◌, ◌++◌, length, map, Option, Some, None, Result, Ok, Err, false, true};
+ghost use Rattle.std.specs.Prelude.{◌≡◌, ◌⊎◌, ◌↔◌, ◌+◌, ◌/◌, ◌^◌, ◌≤◌, ℕ, List, [], ◌∷◌, ◌++◌, codes, length, map, take, Option, Some, None, Result, Ok, Err, false, true};
+ghost use Rattle.std.specs.Cmp.Lexicographic.{slice_cmp};
 ghost use Rattle.std.specs.Option.{option_map};
+ghost use Rattle.std.specs.Ordering.{nat_cmp};
 ghost use Rattle.rip_log.specs.Codes.{is_read};
 ghost use Rattle.rip_log.specs.Cuts.{PassesLines};
 ghost use Rattle.rip_log.specs.Said.{AllSaid, AreAllSaid, HasNoFault, all_said, captured_all, log_said, said_at};
@@ -11,19 +13,24 @@ ghost use Rattle.rip_log.specs.Lines.{Capture, judge};
 ghost use Rattle.rip_log.specs.Logs.{Gives, Log, Numbered, log_at, log_in};
 ghost use Rattle.rip_log.specs.LogText.{AreLines, EndsLine, IsLineJudged, LogFailed, LogFault, LogText};
 ghost use Rattle.rip_log.specs.Runs.{IsTaken, numbered};
+ghost use Rattle.rip_log.specs.Times.{IsSecondText, IsTimeText};
 ghost use Rattle.rip_log.specs.declared.error.LogCode.{LogCode};
 ghost use Rattle.rip_log.specs.declared.error.LogError.{LogError};
 ghost use Rattle.rip_log.specs.declared.reader.Record.{Record};
 
-use crate::limits::{MOST_HELD_BYTES, MOST_LINE_BYTES, MOST_LINES, MOST_PASSED_BYTES};
+use crate::limits::{
+    MOST_HELD_BYTES, MOST_LINE_BYTES, MOST_LINES, MOST_MICROS, MOST_PASSED_BYTES, MOST_SECONDS,
+};
 use rip_wire::laws;
 
-/// The limits of a log.
+/// The limits of a log, and of times in text.
 pub fn limits()
     ensures bytes { MOST_LINE_BYTES ≡ 2048 }
     ensures lines { MOST_LINES ≡ 1000000 }
     ensures passed { MOST_PASSED_BYTES + 1 ≡ 2 ^ 64 }
     ensures held { MOST_HELD_BYTES ≡ 32768 }
+    ensures micros { MOST_MICROS ≡ 253402300799999999 }
+    ensures seconds { MOST_SECONDS ≡ 253402300799 }
 {}
 
 /// What is computed of a line is what the words of the format say: it is skipped, or is a record,
@@ -136,3 +143,24 @@ pub fn lines_of_runs()
 {
     judged_lines();
 }
+
+/// A time has one text, and a text is that of one time.
+pub fn time_texts()
+    ensures text { (micros : ℕ) (a b : List ℕ) → IsTimeText micros a → IsTimeText micros b →
+        a ≡ b }
+    ensures time { (m n : ℕ) (text : List ℕ) → IsTimeText m text → IsTimeText n text → m ≡ n }
+{}
+
+/// Texts come in the order of their times, where bytes are compared from the left.
+pub fn time_order()
+    ensures { (m n : ℕ) (a b : List ℕ) → IsTimeText m a → IsTimeText n b →
+        slice_cmp nat_cmp a b ≡ nat_cmp m n }
+{}
+
+/// A second has one text: the first 19 bytes of the text of each time in it, and a Z.
+pub fn second_texts()
+    ensures text { (second : ℕ) (a b : List ℕ) → IsSecondText second a → IsSecondText second b →
+        a ≡ b }
+    ensures front { (micros : ℕ) (text : List ℕ) → IsTimeText micros text →
+        IsSecondText (micros / 1_000_000) (take 19 text ++ codes "Z") }
+{}

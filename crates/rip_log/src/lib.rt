@@ -1,4 +1,4 @@
-//! Logs of captured datagrams: devices, and the reading of a log's lines.
+//! Logs of captured datagrams: devices, the reading of a log's lines, and times in text.
 #![tactic(auto)]
 
 mod blocks;
@@ -17,6 +17,7 @@ mod reader;
 mod sink;
 mod source;
 mod span;
+mod time;
 mod window;
 
 pub use device::Failed;
@@ -24,8 +25,9 @@ pub use digits::decode_digits;
 pub use error::{LogCode, LogError};
 pub use feed::Feed;
 pub use history::History;
-pub use limits::{MOST_HELD_BYTES, MOST_LINE_BYTES, MOST_LINES};
+pub use limits::{MOST_HELD_BYTES, MOST_LINE_BYTES, MOST_LINES, MOST_MICROS, MOST_SECONDS};
 pub use reader::{BadLine, Line, LogReader, Origin, Record};
 pub use sink::{IntoWrite, Sink};
 pub use source::{FromRead, Source};
 pub use span::Span;
+pub use time::{read_time, write_second, write_time};

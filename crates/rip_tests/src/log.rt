@@ -1,4 +1,5 @@
-//! Sources and sinks, digits, and the records of logs: in pieces, with faults, and from readers that fail.
+//! Sources and sinks, digits, times in text, and the records of logs: in pieces, with faults, and from
+//! readers that fail.
 
 use crate::devices::Pieces;
 use crate::examples::SETTLED;
@@ -14,6 +15,7 @@ mod lines;
 mod pulls;
 mod sinks;
 mod sources;
+mod times;
 
 /// How many bytes come in one pull.
 const PIECES: [usize; 8] = [1, 2, 3, 7, 99, 100, 101, 2049];
