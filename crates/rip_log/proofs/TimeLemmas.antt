@@ -26,12 +26,15 @@ IsEarlierClock t u =
     × ((t.minute < u.minute) ⊎ ((t.minute ≡ u.minute)
     × ((t.second < u.second) ⊎ ((t.second ≡ u.second) × (t.micro < u.micro))))))
 
+-- their dates are the same
 abbrev pub IsSameDate : DateTime → DateTime → Type 0
 IsSameDate t u = (t.year ≡ u.year) × (t.month ≡ u.month) × (t.day ≡ u.day)
 
+-- one time is earlier than another
 abbrev pub IsEarlier : DateTime → DateTime → Type 0
 IsEarlier t u = IsEarlierDate t u ⊎ (IsSameDate t u × IsEarlierClock t u)
 
+-- the days before the date of a time
 abbrev days : DateTime → ℕ
 days t = days_before t.year t.month t.day
 
@@ -140,20 +143,23 @@ one_text micros a b h k =
 compared : List ℕ → List ℕ → Ordering
 compared = slice_cmp nat_cmp
 
+-- past a byte that is the same in both
 one_same : (b : ℕ) (xs ys : List ℕ) → compared (b ∷ xs) (b ∷ ys) ≡ compared xs ys
 unfolding compared
 one_same b xs ys = rw (← nat_cmp_is b b Equal refl) refl
 
+-- the first byte that differs decides
 one_less : (b c : ℕ) (xs ys : List ℕ) → b < c → compared (b ∷ xs) (c ∷ ys) ≡ Less
 unfolding compared
 one_less b c xs ys lt = rw (← nat_cmp_is b c Less lt) refl
 
--- two digits
+-- past two digits that are the same in both
 two_same : (n k : ℕ) (xs ys : List ℕ) → n ≡ k →
     compared (two_digits n ++ xs) (two_digits k ++ ys) ≡ compared xs ys
 two_same n k xs ys e =
     rw e (one_same (48 + k / 10) _ _ ∙ one_same (48 + k % 10) xs ys)
 
+-- the lesser of two numbers has the digits that come first
 two_less : (n k : ℕ) (xs ys : List ℕ) → n < k →
     compared (two_digits n ++ xs) (two_digits k ++ ys) ≡ Less
 two_less n k xs ys lt =
@@ -165,7 +171,7 @@ two_less n k xs ys lt =
       | inr (inr more) ↦ absurd (omega arith)
     ]
 
--- the four digits of a year
+-- so it has four digits, as a year
 four_less : (n k : ℕ) (xs ys : List ℕ) → n < k →
     compared (two_digits (n / 100) ++ two_digits (n % 100) ++ xs)
     (two_digits (k / 100) ++ two_digits (k % 100) ++ ys)
@@ -178,7 +184,7 @@ four_less n k xs ys lt =
       | inr (inr more) ↦ absurd (omega arith)
     ]
 
--- the six digits of a fraction
+-- and six, as a fraction
 six_less : (n k : ℕ) (xs ys : List ℕ) → n < k →
     compared (fraction_text n ++ xs) (fraction_text k ++ ys) ≡ Less
 six_less n k xs ys lt =
@@ -200,22 +206,25 @@ six_less n k xs ys lt =
 abbrev from : ℕ → DateTime → DateTime → Ordering
 from n t u = compared (drop n (time_text t)) (drop n (time_text u))
 
--- past two digits that are the same in both, and the byte after them
+-- past two digits that are the same in both, and the byte after them: 45 is -, 58 is :, 84 is T
 past : (n k b : ℕ) (xs ys : List ℕ) → n ≡ k →
     compared (two_digits n ++ b ∷ xs) (two_digits k ++ b ∷ ys) ≡ compared xs ys
 past n k b xs ys e = two_same n k _ _ e ∙ one_same b xs ys
 
+-- past the same year
 past_year : (t u : DateTime) → t.year ≡ u.year → from 0 t u ≡ from 5 t u
 past_year t u e =
     two_same (t.year / 100) (u.year / 100) _ _ (ap (λ y. y / 100) e)
     ∙ past (t.year % 100) (u.year % 100) 45 _ _ (ap (λ y. y % 100) e)
 
+-- the earlier date has the text that comes first
 date_less : (t u : DateTime) → IsEarlierDate t u → from 0 t u ≡ Less
 date_less t u (inl lt) = four_less t.year u.year _ _ lt
 date_less t u (inr (year, inl lt)) = past_year t u year ∙ two_less t.month u.month _ _ lt
 date_less t u (inr (year, inr (month, lt))) =
     past_year t u year ∙ past t.month u.month 45 _ _ month ∙ two_less t.day u.day _ _ lt
 
+-- so does the earlier time of day, from the hour on
 clock_less : (t u : DateTime) → IsEarlierClock t u → from 11 t u ≡ Less
 clock_less t u (inl lt) = two_less t.hour u.hour _ _ lt
 clock_less t u (inr (hour, inl lt)) =
@@ -227,13 +236,14 @@ clock_less t u (inr (hour, inr (minute, inr (second, lt)))) =
     past t.hour u.hour 58 _ _ hour ∙ past t.minute u.minute 58 _ _ minute
     ∙ two_same t.second u.second _ _ second ∙ six_less t.micro u.micro _ _ lt
 
+-- and the earlier time
 text_less : (t u : DateTime) → IsEarlier t u → from 0 t u ≡ Less
 text_less t u (inl date) = date_less t u date
 text_less t u (inr (date, clock)) =
     past_year t u date.0 ∙ past t.month u.month 45 _ _ date.1 ∙ past t.day u.day 84 _ _ date.2
     ∙ clock_less t u clock
 
--- the earlier time has the text that comes first
+-- as it is counted by micros
 texts_less : (m n : ℕ) (a b : List ℕ) → IsTimeText m a → IsTimeText n b → m < n →
     slice_cmp nat_cmp a b ≡ Less
 unfolding compared
@@ -272,10 +282,11 @@ second_front micros text h = record {
   spelled = ap (λ x. take 19 x ++ codes "Z") h.spelled;
 }
 
--- the second of a time
+-- the time at which its second begins
 abbrev whole : DateTime → DateTime
 whole t = record t { micro = 0 }
 
+-- it is one
 IsDateTime-whole : (t : DateTime) → IsDateTime t → IsDateTime (whole t)
 IsDateTime-whole t h = (h.0, (h.1.0, h.1.1, h.1.2, omega arith))
 

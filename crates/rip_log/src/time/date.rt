@@ -8,7 +8,7 @@ use jiff_core::civil::{Date, days_in_month};
 /// The days from 1970-01-01 to 9999-12-31.
 pub const MOST_DAYS: u32 = 2_932_896;
 
-// Days are counted from -9999-01-01 there: so many come before 1970-01-01.
+/// The days from -9999-01-01, from which `jiff_core` counts, to 1970-01-01.
 const EARLIER_DAYS: u32 = 4_371_587;
 
 /// The year, the month and the day of the date so many days after 1970-01-01.

@@ -110,6 +110,7 @@ impl DateTime {
     {
         let mut text = [b'Z'; 27];
         text[..20].copy_from_slice(&self.second_text());
+        // The fraction comes before the Z.
         text[19..26].copy_from_slice(&fraction_text(self.micro));
         text
     }
