@@ -83,7 +83,7 @@ abbrev pub is_long : Carried → Bool
 is_long (Long sender) = true
 is_long _ = false
 
--- a datagram to another address
+-- RIP to another address, or from another port
 abbrev pub is_elsewhere : Carried → Bool
 is_elsewhere Elsewhere = true
 is_elsewhere _ = false

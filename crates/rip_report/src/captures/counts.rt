@@ -22,7 +22,7 @@ pub(crate) struct PacketCounts {
     pub(crate) passwords: u64,
     /// Datagrams of which the authentication was taken off.
     pub(crate) without_authentication: u64,
-    /// Datagrams to other addresses.
+    /// RIP to other addresses, or from another port.
     pub(crate) elsewhere: u64,
     pub(crate) others: u64,
 }
