@@ -1,8 +1,10 @@
 -- What was written, after one text more.
-use Rattle.std.proofs.Common.{◌≡◌, ◌++◌, ◌∷◌, [], ℕ, true, false, List, Option, Some, None, Result, Ok, Err, is_ok, suc, ◌+◌, arith, refl, sym, ap, ◌∙◌, append_assoc, append-nil}
+use Rattle.std.proofs.Common.{◌≡◌, ◌++◌, ◌∷◌, [], ℕ, true, false, List, Option, Some, None, Result, Ok, Err, is_ok, suc, ◌+◌, arith, refl, sym, subst, ap, ◌∙◌, append_assoc, append-nil, ◌≤◌, Bool, false, is_err, length}
 use Rattle.rip_report.specs.Listings.{TextsBelow}
-use Rattle.rip_report.specs.Outs.{Adds, AddsOne, Progress, noted}
-use Rattle.rip_report.specs.Sent.{SinkState, Writes}
+use Rattle.rip_report.specs.Outs.{Adds, AddsOne, IsOnItsWay, Progress, noted}
+use Rattle.rip_report.specs.Sent.{SinkState, Writes, sink_state}
+use Rattle.rip_report.specs.declared.page.TheConstants.{PAGE_BYTES}
+use Rattle.rip_log.specs.Taken.{Taken}
 use Rattle.rip_log.specs.declared.device.Failed.{Failed}
 use Rattle.rip_report.proofs.SentLemmas.{Began-front, Sent-front, Writes-more}
 
@@ -30,6 +32,17 @@ adds_then {a} {b} {c} {x} {y} s t = record { start = t.start ∙ s.start; text =
 pub writes_held : (a b : SinkState) (r : Result (Unit {0}) Failed) (text held more : List ℕ) → Writes a b r text held → Writes a b r (text ++ more) (held ++ more)
 writes_held a b (Ok done) text held more s = record { ok = Sent-front a.taken b.taken text held more s.ok; err = tt; failed = s.failed; kept = s.kept }
 writes_held a b (Err e) text held more s = record { ok = tt; err = Began-front a.taken b.taken text more s.err; failed = s.failed; kept = s.kept }
+
+-- a text that is on its way
+pub on_its_way : {K : Type 0} (taken : K → Taken) (broken : K → Bool) (start : SinkState) (sink : K) (r : Result (Unit {0}) Failed) (text held : List ℕ) → is_err r ≡ false → length held ≤ PAGE_BYTES →
+    Writes start (sink_state taken broken sink) r text held → IsOnItsWay taken broken start text
+on_its_way taken broken start sink (Ok done) text held ok few writes = record { sink = sink; held = held; writes = writes; few = few }
+on_its_way taken broken start sink (Err e) text held ok few writes = cc ok
+
+-- the text that it is after more was added
+pub way_after : {K : Type 0} (taken : K → Taken) (broken : K → Bool) {a b : Progress} {x : List ℕ} → Adds a b x → IsOnItsWay taken broken b.start b.text → IsOnItsWay taken broken a.start (a.text ++ x)
+way_after taken broken {a} {b} {x} adds way =
+    subst (λ (s : SinkState). IsOnItsWay taken broken s (a.text ++ x)) adds.start (subst (IsOnItsWay taken broken b.start) adds.text way)
 
 -- no text
 pub adds_none : (p : Progress) → Adds p p []

@@ -1,5 +1,5 @@
 -- What the parts of a run leave that adds a file to a log.
-use Rattle.std.specs.Prelude.{◌≡◌, ◌≢◌, ◌⊎◌, ℕ, ◌+◌, ◌<◌, ◌≤◌, ◌++◌, ◌==◌, if◌then◌else◌, Bool, true, false, List, map, codes, Option, Result, Ok, Err}
+use Rattle.std.specs.Prelude.{◌≡◌, ◌≢◌, ◌⊎◌, ℕ, ◌+◌, ◌<◌, ◌≤◌, ◌++◌, ◌∷◌, [], ◌==◌, if◌then◌else◌, Bool, true, false, List, map, codes, Option, Result, Ok, Err}
 use Rattle.std.specs.List.{AllByRecursion}
 use Rattle.rip_log.specs.declared.limits.TheConstants.{MOST_LINES}
 use Rattle.rip_log.specs.Wholes.{Went}
@@ -13,7 +13,8 @@ use Rattle.rip_capture.specs.declared.reader.CaptureReader.{CaptureReader}
 use Rattle.rip_report.specs.CaptureText.{Carrier, IsCarrier, carried_line, comment_line, counted, counted_status, counts_of, file_refusal_line, has_line, line_count, omitted_of, one, packet_lines}
 use Rattle.rip_report.specs.CaptureLogs.{Follows}
 use Rattle.rip_report.specs.Finished.{EndsWith}
-use Rattle.rip_report.specs.Outs.{Adds, Progress}
+use Rattle.rip_log.specs.Taken.{Taken}
+use Rattle.rip_report.specs.Outs.{Adds, IsOnItsWay, Progress}
 use Rattle.rip_report.specs.Sent.{Began, SinkState}
 use Rattle.rip_report.specs.Written.{line}
 use Rattle.rip_report.specs.declared.captures.authentication.Authentication.{Authentication}
@@ -88,9 +89,17 @@ EndsSo given at_end how before lines carriers new text Unwritten =
     (text.failed ≡ true)
     × ((taken : List ℕ) × Stands given before new taken (map (λ c. c.frame) carriers))
 
+-- behind the lines of all packets but the last no write had failed
+pub record FailsAtLast {K : Type 0} (taken : K → Taken) (failed : K → Bool) (how : Authentication)
+    (link : List ℕ) (carriers : List Carrier) (before : Progress) : Type 0 where
+  pub front : List Carrier
+  pub last : Carrier
+  pub split : carriers ≡ front ++ last ∷ []
+  pub way : IsOnItsWay taken failed before.start (before.text ++ packet_lines how link front)
+
 -- what logging the packets of a file leaves, and answers
-pub record LogsPackets {R : Type 0} (given : R → List ℕ) (coming : R → Option (List ℕ))
-    (broken at_end : R → Bool) (how : Authentication) (link : List ℕ) (lines : ℕ)
+pub record LogsPackets {K R : Type 0} (taken : K → Taken) (failed : K → Bool)
+    (given : R → List ℕ) (coming : R → Option (List ℕ)) (broken at_end : R → Bool) (how : Authentication) (link : List ℕ) (lines : ℕ)
     (old new : CaptureReader R) (before after : Progress) (ending : Ending) : Type 0 where
   pub carriers : List Carrier
   pub carry : AllByRecursion IsCarrier carriers
@@ -100,8 +109,10 @@ pub record LogsPackets {R : Type 0} (given : R → List ℕ) (coming : R → Opt
   pub went : Went given coming at_end (source_of old) (source_of new)
   pub unread : ending ≡ Unread → (broken (source_of new) ≡ true) ⊎ IsFar new
   pub marks : ending ≢ Unread → broken (source_of new) ≡ broken (source_of old)
-  -- where the sink fails, the reading ends there
-  pub stops : before.failed ≡ false → after.failed ≡ true → ending ≡ Unwritten
+  -- where the sink fails, the reading ends at the packet whose line it failed at
+  pub stops : before.failed ≡ false → IsOnItsWay taken failed before.start before.text →
+      after.failed ≡ true →
+      (ending ≡ Unwritten) × FailsAtLast taken failed how link carriers before
 
 -- ---- the end of a run
 

@@ -1,7 +1,9 @@
 -- Text on its way to a sink.
-use Rattle.std.specs.Prelude.{◌≡◌, ℕ, Bool, List, [], ◌∷◌, ◌++◌, Option, Some, None, Result}
+use Rattle.std.specs.Prelude.{◌≡◌, ◌≤◌, ℕ, Bool, List, [], ◌∷◌, ◌++◌, length, Option, Some, None, Result, Ok}
 use Rattle.rip_log.specs.declared.device.Failed.{Failed}
-use Rattle.rip_report.specs.Sent.{SinkState, Writes}
+use Rattle.rip_log.specs.Taken.{Taken}
+use Rattle.rip_report.specs.Sent.{SinkState, Writes, sink_state}
+use Rattle.rip_report.specs.declared.page.TheConstants.{PAGE_BYTES}
 
 -- how far a text has come: how the sink stood before it and stands now, all that was added, and
 -- whether a write has failed
@@ -27,6 +29,14 @@ abbrev pub noted : List (Option (List ℕ)) → List ℕ
 noted [] = []
 noted (Some text ∷ later) = text ++ noted later
 noted (None ∷ later) = noted later
+
+-- a text is on its way: no write has failed, and all of it is written but for what a page holds
+pub record IsOnItsWay {K : Type 0} (taken : K → Taken) (broken : K → Bool) (start : SinkState)
+    (text : List ℕ) : Type 0 where
+  pub sink : K
+  pub held : List ℕ
+  pub writes : Writes start (sink_state taken broken sink) (Ok tt) text held
+  pub few : length held ≤ PAGE_BYTES
 
 -- more text was taken: where all text before was written but for what was held, all is written but
 -- for what is held now

@@ -3,7 +3,7 @@
 ghost use Rattle.std.specs.Prelude.{◌≡◌, ◌≢◌, ◌∷◌, ◌++◌, [], true, false, decimal, is_err, Err};
 ghost use Rattle.rip_report.specs.Finished.{Answers, EndsWith};
 ghost use Rattle.rip_report.specs.Names.{numbered};
-ghost use Rattle.rip_report.specs.Outs.{Adds};
+ghost use Rattle.rip_report.specs.Outs.{Adds, IsOnItsWay};
 ghost use Rattle.rip_report.specs.Sent.{Writes, sink_state};
 ghost use Rattle.rip_wire.specs.Address.{address_text};
 ghost use Rattle.rip_wire.specs.Prefix.{prefix_text};
@@ -61,6 +61,7 @@ impl<K: Sink> Out<K> {
         ensures sink { result.sink ≡ sink_state K.taken K.broken sink }
         ensures text { result.text ≡ [] }
         ensures failed { result.failed ≡ false }
+        ensures way { IsOnItsWay K.taken K.broken result.start [] }
     {
         let start = Seen::of(&sink);
         Out {
@@ -143,7 +144,9 @@ impl<K: Sink> Out<K> {
 
     /// Whether a write has failed, so that a loop may stop early.
     pub(crate) fn has_failed(&self) -> bool
-        ensures { result ≡ self.now.failed }
+        ensures failed { result ≡ self.now.failed }
+        ensures way { result ≡ false →
+            IsOnItsWay K.taken K.broken self.now.start self.now.text }
     {
         self.wrote.is_err()
     }

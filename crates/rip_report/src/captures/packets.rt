@@ -79,8 +79,8 @@ pub(crate) fn log_packets<R: Source, K: Sink>(
     requires front { Stands R.given (R.given (source_of reader.old)) reader.old [] [] }
     requires running { refusal_of reader.old ≡ None }
     requires lines { lines ≤ MOST_LINES }
-    ensures { LogsPackets R.given R.coming R.broken R.at_end authentication link.now lines
-        reader.old reader.new out.old out.new result }
+    ensures { LogsPackets K.taken K.broken R.given R.coming R.broken R.at_end
+        authentication link.now lines reader.old reader.new out.old out.new result }
 {
     long_captures();
     read_captures();

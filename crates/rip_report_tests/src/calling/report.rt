@@ -19,8 +19,8 @@ use std::alloc::Global;
 use std::hash::{BuildHasherDefault, FoldHasher};
 
 /// The status of the verdict that a plan and a log give, of a file or of any other source. The
-/// verdict's line goes out. The source comes back, and has given the text that was judged, and so does
-/// the sink.
+/// verdict's line goes out. The source, which has given the text that was judged, comes back, and the
+/// sink does.
 fn verdict_of<R: Source, K: Sink>(
     alloc: Global,
     plan: &[u8],

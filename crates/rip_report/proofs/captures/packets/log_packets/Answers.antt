@@ -1,4 +1,4 @@
-use Rattle.std.proofs.Common.{◌≡◌, ◌∙◌, ◌+◌, ◌++◌, ◌∷◌, [], List, ap, arith, inl, inr, length, map, refl, sym, subst}
+use Rattle.std.proofs.Common.{◌≡◌, ◌∙◌, ◌+◌, ◌++◌, ◌∷◌, [], List, ap, append-nil, arith, inl, inr, length, map, refl, sym, subst}
 use Rattle.std.proofs.lemmas.Bool.{false≢true}
 use Rattle.std.proofs.lemmas.List.{length-map}
 use Rattle.rip_log.proofs.WholeLemmas.{went_nowhere, went_on}
@@ -7,9 +7,9 @@ use Rattle.rip_capture.specs.Pcap.{Frame}
 use Rattle.rip_capture.specs.declared.error.CaptureCode.TheVariants.{Read}
 use Rattle.rip_report.specs.CapturePackets.{ended_at}
 use Rattle.rip_report.specs.CaptureText.{Carrier, IsCarrier, counted, omitted_of}
-use Rattle.rip_report.specs.Outs.{Progress}
+use Rattle.rip_report.specs.Outs.{IsOnItsWay, Progress}
 use Rattle.rip_report.proofs.CaptureLemmas.{adds-packet, all-snoc, counts-snoc, ends-at, ends-by, far, stops-far, frames-snoc, has-room, line_count-snoc, never-unread, read-is_unread, unread-is_read}
-use Rattle.rip_report.proofs.OutLemmas.{adds_none}
+use Rattle.rip_report.proofs.OutLemmas.{adds_none, way_after}
 use Rattle.rip_report.proofs.captures.packets.log_packets.Goals as goal
 
 pub packets-init : goal.packets-init
@@ -28,6 +28,7 @@ packets-init g c =
       running = c.requires.running;
       marks = refl;
       sound = λ sound. sound;
+      way = λ sound way. subst (IsOnItsWay g.K.Sink.taken g.K.Sink.broken c.args.out.now.start) (sym (append-nil c.args.out.now.text)) way;
     }
 
 pub log_packet-requires-clause-room : goal.log_packet-requires-clause-room
@@ -46,6 +47,7 @@ packets-preserved g c =
     let logs = rw c.if-not-log_packet.false at c.log_packet.ensures.logs in
     let p : Carrier = record { frame = frame_of packet; carried = c.log_packet.ensures.carried } in
     let cs = inv.carriers in
+    let adds = adds-packet c.args.authentication c.args.link.now cs p inv.adds logs.adds in
     record {
       carriers = cs ++ p ∷ [];
       carry = all-snoc IsCarrier cs p inv.carry c.log_packet.ensures.carries;
@@ -54,11 +56,12 @@ packets-preserved g c =
       counts = logs.counts ∙ ap (λ n. counted n p.carried (omitted_of c.args.authentication p.frame.bytes p.carried)) inv.counts ∙ sym (counts-snoc c.args.authentication cs p);
       lines = omega (arith, logs.lines, inv.lines, line_count-snoc cs p);
       few = logs.few;
-      adds = adds-packet c.args.authentication c.args.link.now cs p inv.adds logs.adds;
+      adds = adds;
       went = went_on S.given S.coming S.at_end (source_of c.args.reader.now) (source_of c.packets.reader) (source_of now) inv.went runs.moves.went;
       running = h.refused;
       marks = runs.moves.marks refl ∙ inv.marks;
-      sound = λ sound. sym c.has_failed.ensures ∙ c.if-has_failed.false;
+      sound = λ sound. sym c.has_failed.ensures.failed ∙ c.if-has_failed.false;
+      way = λ sound way. way_after g.K.Sink.taken g.K.Sink.broken adds (c.has_failed.ensures.way c.if-has_failed.false);
     }
 
 pub packets-smaller : goal.packets-smaller
@@ -88,7 +91,7 @@ returns-then-not-log_packet g c =
       went = went_on S.given S.coming S.at_end (source_of c.args.reader.now) (source_of c.packets.reader) (source_of now) inv.went runs.moves.went;
       unread = λ e. cc e;
       marks = λ e. runs.moves.marks refl ∙ inv.marks;
-      stops = λ sound failed. absurd (false≢true (sym (inv.sound sound) ∙ ap (λ (t : Progress). t.failed) (sym lacks.text) ∙ failed));
+      stops = λ sound way failed. absurd (false≢true (sym (inv.sound sound) ∙ ap (λ (t : Progress). t.failed) (sym lacks.text) ∙ failed));
     }
 
 pub returns-then-has_failed : goal.returns-then-has_failed
@@ -110,13 +113,13 @@ returns-then-has_failed g c =
       few = omega (arith, logs.lines, inv.lines, line_count-snoc cs p, logs.few);
       adds = adds-packet c.args.authentication c.args.link.now cs p inv.adds logs.adds;
       ends = (
-        sym c.has_failed.ensures ∙ c.if-has_failed.true,
+        sym c.has_failed.ensures.failed ∙ c.if-has_failed.true,
         (goes.front ++ goes.bytes, subst (λ (fs : List Frame). Stands S.given before now (goes.front ++ goes.bytes) fs) (sym (frames-snoc cs p)) goes.stands),
       );
       went = went_on S.given S.coming S.at_end (source_of c.args.reader.now) (source_of c.packets.reader) (source_of now) inv.went runs.moves.went;
       unread = λ e. cc e;
       marks = λ e. runs.moves.marks refl ∙ inv.marks;
-      stops = λ sound failed. refl;
+      stops = λ sound way failed. (refl, record { front = cs; last = p; split = refl; way = inv.way sound way });
     }
 
 pub returns-in-Ok-None : goal.returns-in-Ok-None
@@ -139,7 +142,7 @@ returns-in-Ok-None g c =
       went = went_on S.given S.coming S.at_end (source_of c.args.reader.now) (source_of c.packets.reader) (source_of now) inv.went runs.moves.went;
       unread = λ e. absurd (never-unread tally (position_of now) e);
       marks = λ e. runs.moves.marks refl ∙ inv.marks;
-      stops = λ sound failed. absurd (false≢true (sym (inv.sound sound) ∙ failed));
+      stops = λ sound way failed. absurd (false≢true (sym (inv.sound sound) ∙ failed));
     })
 
 pub returns-in-Err : goal.returns-in-Err
@@ -161,7 +164,7 @@ returns-in-Err g c =
       went = went_on S.given S.coming S.at_end (source_of c.args.reader.now) (source_of c.packets.reader) (source_of now) inv.went runs.moves.went;
       unread = λ e. runs.moves.failed (unread-is_read c.in-Err.error.code c.in-Err.error.at e);
       marks = λ e. runs.moves.marks (read-is_unread c.in-Err.error.code c.in-Err.error.at e) ∙ inv.marks;
-      stops = λ sound failed. absurd (false≢true (sym (inv.sound sound) ∙ failed));
+      stops = λ sound way failed. absurd (false≢true (sym (inv.sound sound) ∙ failed));
     })
 
 pub returns : goal.returns
@@ -186,5 +189,5 @@ returns g c =
       went = inv.went;
       unread = λ e. inr is_far;
       marks = λ e. absurd (e refl);
-      stops = λ sound failed. absurd (false≢true (sym (inv.sound sound) ∙ failed));
+      stops = λ sound way failed. absurd (false≢true (sym (inv.sound sound) ∙ failed));
     }

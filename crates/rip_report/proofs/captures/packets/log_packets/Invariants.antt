@@ -1,10 +1,10 @@
-use Rattle.std.proofs.Common.{◌≡◌, ◌+◌, ◌-◌, ◌^◌, ◌≤◌, List, ℕ, None, false, map}
+use Rattle.std.proofs.Common.{◌≡◌, ◌++◌, ◌+◌, ◌-◌, ◌^◌, ◌≤◌, List, ℕ, None, false, map}
 use Rattle.std.specs.List.{AllByRecursion}
 use Rattle.rip_log.specs.Wholes.{Went}
 use Rattle.rip_log.specs.declared.limits.TheConstants.{MOST_LINES}
 use Rattle.rip_capture.specs.NextCall.{Stands, refusal_of, source_of}
 use Rattle.rip_report.specs.CaptureText.{Carrier, IsCarrier, counts_of, line_count, packet_lines}
-use Rattle.rip_report.specs.Outs.{Adds}
+use Rattle.rip_report.specs.Outs.{Adds, IsOnItsWay}
 use Rattle.rip_report.proofs.captures.packets.log_packets.Given as goal
 
 abbrev pub invariant-packets : goal.invariant-packets
@@ -23,6 +23,8 @@ invariant-packets g l =
       running : refusal_of l.reader ≡ None;
       marks : S.broken (source_of l.reader) ≡ S.broken (source_of l.fn.reader);
       sound : l.fn.out.failed ≡ false → l.out.failed ≡ false;
+      way : l.fn.out.failed ≡ false → IsOnItsWay g.K.Sink.taken g.K.Sink.broken l.fn.out.start l.fn.out.text →
+          IsOnItsWay g.K.Sink.taken g.K.Sink.broken l.fn.out.start (l.fn.out.text ++ packet_lines l.authentication l.link carriers);
     }
 
 abbrev pub decreases-packets : goal.decreases-packets
