@@ -1,27 +1,27 @@
 -- What blocks say, what they do, and their faults.
-use Rattle.std.proofs.Common.{◌≡◌, ◌≢◌, ◌+◌, ◌-◌, ◌≤◌, ◌∙◌, ℕ, true, false, List, [], ◌∷◌, ◌++◌, Option, Some, None, Ok, Err, take, ap, sym, refl, inl, inr, subst, arith}
+use Rattle.std.proofs.Common.{◌≡◌, ◌≢◌, ◌+◌, ◌-◌, ◌≤◌, ◌∙◌, ℕ, true, false, List, [], ◌∷◌, Option, Some, None, Ok, Err, take, ap, sym, refl, inl, inr, subst, arith}
 use Rattle.std.specs.Prelude.{slice_range}
 use Rattle.rip_log.proofs.CutLemmas.{range-drop, range-front}
 use Rattle.rip_capture.specs.Bodies.{LiesAt, ReadsBody, ReadsPacket, entered}
 use Rattle.rip_capture.specs.Codes.{is_read}
+use Rattle.rip_capture.specs.Interfaces.{came_by}
 use Rattle.rip_capture.specs.Pcap.{Frame}
 use Rattle.rip_capture.specs.Pcapng.{BlockFault, BodyFault, Does, IsPacket, OrderedFault, PacketFault, Section, is_read_whole, kind_of, packet_from}
 use Rattle.rip_capture.specs.Pcapng.BlockFault.{front as short_front, order as no_order, ordered}
-use Rattle.rip_capture.specs.Pcapng.BodyFault.{version as bad_version, full as too_many, packet as bad_packet}
+use Rattle.rip_capture.specs.Pcapng.BodyFault.{version as bad_version, full as too_many, options as bad_options, packet as bad_packet}
 use Rattle.rip_capture.specs.Pcapng.Does.{section as does_section, interface as does_interface, packet as does_packet, other as does_nothing}
 use Rattle.rip_capture.specs.Pcapng.OrderedFault.{size as bad_size, old as old_packet, cut as cut_block, end as bad_end, body as bad_body}
 use Rattle.rip_capture.specs.Pcapng.PacketFault.{interface as no_interface, size as bad_length, link_type as no_type}
 use Rattle.rip_capture.specs.declared.blocks.BlockKind.{BlockKind}
 use Rattle.rip_capture.specs.declared.blocks.BlockKind.TheVariants as kinds
-use Rattle.rip_capture.specs.declared.blocks.Interface.{Interface}
+use Rattle.rip_capture.specs.declared.interface.Interface.{Interface}
 use Rattle.rip_capture.specs.declared.blocks.PacketForm.{PacketForm}
 use Rattle.rip_capture.specs.declared.bodies.Body.{Body}
 use Rattle.rip_capture.specs.declared.bodies.Body.TheVariants as says
 use Rattle.rip_capture.specs.declared.error.CaptureCode.{CaptureCode}
 use Rattle.rip_capture.specs.declared.error.CaptureCode.TheVariants as codes
-use Rattle.rip_capture.specs.declared.link.LinkType.{LinkType}
+use Rattle.rip_capture.specs.declared.bodies.PacketBody.{PacketBody}
 use Rattle.rip_capture.specs.declared.numbers.Order.{Order}
-use Rattle.rip_log.specs.declared.span.Span.{Span}
 
 pub packet-fault : (order : Order) (interfaces : List Interface) (form : PacketForm) (b : List ℕ) (code : CaptureCode) → ReadsPacket order interfaces form b (Err code) →
     PacketFault order interfaces form b code
@@ -39,6 +39,7 @@ packet-fault order interfaces form b codes.Read says = absurd says
 version-only : (now : Section) (order : Order) (b : List ℕ) (kind : BlockKind) (code : CaptureCode) → kind ≡ kinds.Section → BodyFault (Some now) order b kind code → BodyFault None order b kind code
 version-only now order b kind code is (bad_version k wrong e) = bad_version k wrong e
 version-only now order b kind code is (too_many n k at many e) = absurd (cc (is, k))
+version-only now order b kind code is (bad_options n k at few wrong e) = absurd (cc (is, k))
 version-only now order b kind code is (bad_packet n form k at f) = absurd (cc (is, k))
 
 pub body-fault-in : (s : Option Section) (now : Section) (order : Order) (b : List ℕ) (kind : BlockKind) (code : CaptureCode) → (s ≡ None → kind ≡ kinds.Section) →
@@ -63,6 +64,7 @@ packet-calm order interfaces form b code (no_type i at can wrong e) = calm-by co
 pub body-calm : (s : Option Section) (order : Order) (b : List ℕ) (kind : BlockKind) (code : CaptureCode) → BodyFault s order b kind code → Calm code
 body-calm s order b kind code (bad_version k wrong e) = calm-by code codes.Version e (record { unread = refl; uncut = λ c. cc c })
 body-calm s order b kind code (too_many now k at many e) = calm-by code codes.Interface e (record { unread = refl; uncut = λ c. cc c })
+body-calm s order b kind code (bad_options now k at few wrong e) = calm-by code codes.Length e (record { unread = refl; uncut = λ c. cc c })
 body-calm s order b kind code (bad_packet now form k at f) = packet-calm order now.interfaces form b code f
 
 pub reads-calm : (order : Order) (interfaces : List Interface) (b : List ℕ) (kind : BlockKind) (code : CaptureCode) → ReadsBody order interfaces kind b (Err code) → Calm code
@@ -74,6 +76,7 @@ reads-calm order interfaces b kind code (inr f) =
 pub body-whole : (s : Option Section) (order : Order) (b : List ℕ) (kind : BlockKind) (code : CaptureCode) → BodyFault s order b kind code → is_read_whole kind ≡ true
 body-whole s order b kind code (bad_version k wrong e) = ap is_read_whole k
 body-whole s order b kind code (too_many now k at many e) = ap is_read_whole k
+body-whole s order b kind code (bad_options now k at few wrong e) = ap is_read_whole k
 body-whole s order b kind code (bad_packet now form k at f) = ap is_read_whole k
 
 pub reads-whole : (order : Order) (interfaces : List Interface) (b : List ℕ) (kind : BlockKind) (code : CaptureCode) → ReadsBody order interfaces kind b (Err code) → is_read_whole kind ≡ true
@@ -99,47 +102,57 @@ block-unread s b code (ordered order room has f) = by f where
 
 -- ---- what a block does
 
--- the packets that a block says that it has
-abbrev pub frames-in : List ℕ → Body → List Frame
-frames-in b (says.Packet t span) = record { link_type = t; bytes = slice_range b span.from span.to } ∷ []
-frames-in b _ = []
+-- the packet that a block says that it has, where these interfaces were described
+abbrev pub frame-in : List Interface → List ℕ → PacketBody → Frame
+frame-in interfaces b p = record {
+  link_type = p.link_type;
+  bytes = slice_range b p.bytes.from p.bytes.to;
+  interface = came_by interfaces p.interface;
+  time = p.time;
+}
 
-lies-packet : (order : Order) (interfaces : List Interface) (form : PacketForm) (b : List ℕ) (t : LinkType) (span : Span) → LiesAt order interfaces form b t span →
-    IsPacket order interfaces form b (record { link_type = t; bytes = slice_range b span.from span.to })
-lies-packet order interfaces form b t span is = record {
+abbrev pub frames-in : List Interface → List ℕ → Body → List Frame
+frames-in interfaces b (says.Packet p) = frame-in interfaces b p ∷ []
+frames-in interfaces b _ = []
+
+lies-packet : (order : Order) (interfaces : List Interface) (form : PacketForm) (b : List ℕ) (p : PacketBody) → LiesAt order interfaces form b p →
+    IsPacket order interfaces form b (frame-in interfaces b p)
+lies-packet order interfaces form b p is = record {
   interface = is.interface;
   described = is.described;
   can = is.can;
   link = is.link;
-  bytes = ap (λ (n : ℕ). slice_range b n span.to) is.from ∙ ap (slice_range b (packet_from form)) is.to;
+  bytes = ap (λ (n : ℕ). slice_range b n p.bytes.to) is.from ∙ ap (slice_range b (packet_from form)) is.to;
+  came = ap (came_by interfaces) is.number;
+  time = is.time;
 }
 
 does-in : (now : Section) (order : Order) (b : List ℕ) (kind : BlockKind) (body : Body) → kind ≢ kinds.OldPacket → ReadsBody order now.interfaces kind b (Ok body) →
-    Does (Some now) order b kind (frames-in b body) (entered now order body)
+    Does (Some now) order b kind (frames-in now.interfaces b body) (entered now order body)
 does-in now order b kind says.Section young reads = does_section reads.0 reads.1 refl refl
 does-in now order b kind (says.Interface i) young reads =
-    does_interface now reads.0 refl reads.2 refl (ap (λ (x : Interface). record { order = now.order; interfaces = now.interfaces ++ x ∷ [] }) reads.1)
-does-in now order b kind (says.Packet t span) young reads =
-    does_packet now reads.0 (record { link_type = t; bytes = slice_range b span.from span.to }) reads.1 refl (lies-packet order now.interfaces reads.0 b t span reads.2) refl refl
+    does_interface now i reads.0 refl reads.2 reads.1 refl refl
+does-in now order b kind (says.Packet p) young reads =
+    does_packet now reads.0 (frame-in now.interfaces b p) reads.1 refl (lies-packet order now.interfaces reads.0 b p reads.2) refl refl
 does-in now order b kind says.Other young (inl is) = does_nothing now is refl refl refl
 does-in now order b kind says.Other young (inr old) = absurd (young old)
 
 pub does-of : (s : Option Section) (now : Section) (order : Order) (b : List ℕ) (kind : BlockKind) (body : Body) → kind ≢ kinds.OldPacket → (s ≡ None → kind ≡ kinds.Section) →
-    ((n : Section) → s ≡ Some n → n ≡ now) → ReadsBody order now.interfaces kind b (Ok body) → Does s order b kind (frames-in b body) (entered now order body)
+    ((n : Section) → s ≡ Some n → n ≡ now) → ReadsBody order now.interfaces kind b (Ok body) → Does s order b kind (frames-in now.interfaces b body) (entered now order body)
 does-of (Some n) now order b kind body young only is reads =
-    subst (λ (m : Section). Does (Some m) order b kind (frames-in b body) (entered now order body)) (sym (is n refl)) (does-in now order b kind body young reads)
+    subst (λ (m : Section). Does (Some m) order b kind (frames-in now.interfaces b body) (entered now order body)) (sym (is n refl)) (does-in now order b kind body young reads)
 does-of None now order b kind says.Section young only is reads = does_section reads.0 reads.1 refl refl
 does-of None now order b kind (says.Interface i) young only is reads = absurd (cc (only refl, reads.0))
-does-of None now order b kind (says.Packet t span) young only is reads = absurd (cc (only refl, reads.1))
+does-of None now order b kind (says.Packet p) young only is reads = absurd (cc (only refl, reads.1))
 does-of None now order b kind says.Other young only is (inl other) = absurd (cc (only refl, other))
 does-of None now order b kind says.Other young only is (inr old) = absurd (young old)
 
 -- a block of a packet says a packet
 pub packet-said : (order : Order) (interfaces : List Interface) (b : List ℕ) (kind : BlockKind) (form : PacketForm) (body : Body) → kind ≡ kinds.Packet form →
-    ReadsBody order interfaces kind b (Ok body) → (t : LinkType) × (span : Span) × (body ≡ says.Packet t span)
+    ReadsBody order interfaces kind b (Ok body) → (p : PacketBody) × (body ≡ says.Packet p)
 packet-said order interfaces b kind form says.Section is reads = absurd (cc (is, reads.0))
 packet-said order interfaces b kind form (says.Interface i) is reads = absurd (cc (is, reads.0))
-packet-said order interfaces b kind form (says.Packet t span) is reads = (t, span, refl)
+packet-said order interfaces b kind form (says.Packet p) is reads = (p, refl)
 packet-said order interfaces b kind form says.Other is (inl other) = absurd (cc (is, other))
 packet-said order interfaces b kind form says.Other is (inr old) = absurd (cc (is, old))
 

@@ -1,5 +1,5 @@
 -- What holds of each byte of a file holds of those of its packets.
-use Rattle.std.proofs.Common.{◌+◌, ◌-◌, ℕ, zero, suc, List, [], ◌∷◌, ◌++◌, Option, Some, None, take, drop, subst, sym}
+use Rattle.std.proofs.Common.{ap, ◌+◌, ◌-◌, ℕ, zero, suc, List, [], ◌∷◌, ◌++◌, Option, Some, None, take, drop, subst, sym}
 use Rattle.std.specs.List.{AllByRecursion}
 use Rattle.std.specs.Prelude.{slice_range}
 use Rattle.rip_capture.specs.Captures.{CaptureFault, IsCapture}
@@ -11,7 +11,7 @@ use Rattle.rip_capture.specs.Pcapng.AreBlocks.{none as no_blocks, more as more_b
 use Rattle.rip_capture.specs.Pcapng.Does.{section, interface, packet, other}
 use Rattle.rip_capture.specs.declared.blocks.BlockKind.{BlockKind}
 use Rattle.rip_capture.specs.declared.error.CaptureCode.{CaptureCode}
-use Rattle.rip_capture.specs.declared.link.LinkType.{LinkType}
+use Rattle.rip_capture.specs.declared.pcap.Framing.{Framing}
 use Rattle.rip_capture.specs.declared.numbers.Order.{Order}
 
 module _ {X : Type 0} (P : X → Type 0) where
@@ -37,11 +37,11 @@ module _ {X : Type 0} (P : X → Type 0) where
   all-drop (suc n) [] h = tt
   all-drop (suc n) (x ∷ xs) h = all-drop n xs h.1
 
-records-bytes : (P : ℕ → Type 0) (order : Order) (t : LinkType) (b : List ℕ) (fs : List Frame) → AreRecords order t b fs → AllByRecursion P b → AllByRecursion (λ f. AllByRecursion P f.bytes) fs
+records-bytes : (P : ℕ → Type 0) (order : Order) (t : Framing) (b : List ℕ) (fs : List Frame) → AreRecords order t b fs → AllByRecursion P b → AllByRecursion (λ f. AllByRecursion P f.bytes) fs
 records-bytes P order t b [] h all = tt
 records-bytes P order t b (f ∷ fs) (first, rest, is, are, whole) all =
     let both = subst (AllByRecursion P) whole all in
-    (subst (AllByRecursion P) (sym is.behind) (all-drop P 16 first (all-left P first rest both)), records-bytes P order t rest fs are (all-right P first rest both))
+    (subst (AllByRecursion P) (sym (ap (λ (f : Frame). f.bytes) is.frame_is)) (all-drop P 16 first (all-left P first rest both)), records-bytes P order t rest fs are (all-right P first rest both))
 
 range-bytes : (P : ℕ → Type 0) (xs : List ℕ) (i j : ℕ) → AllByRecursion P xs → AllByRecursion P (slice_range xs i j)
 range-bytes P xs i j all = all-take P (j - i) (drop i xs) (all-drop P i xs all)
@@ -49,7 +49,7 @@ range-bytes P xs i j all = all-take P (j - i) (drop i xs) (all-drop P i xs all)
 does-bytes : (P : ℕ → Type 0) (s : Option Section) (order : Order) (b : List ℕ) (kind : BlockKind) (fs : List Frame) (t : Section) → Does s order b kind fs t → AllByRecursion P b →
     AllByRecursion (λ f. AllByRecursion P f.bytes) fs
 does-bytes P s order b kind fs t (section k v none e) all = subst (AllByRecursion (λ (f : Frame). AllByRecursion P f.bytes)) (sym none) tt
-does-bytes P s order b kind fs t (interface now k at few none e) all = subst (AllByRecursion (λ (f : Frame). AllByRecursion P f.bytes)) (sym none) tt
+does-bytes P s order b kind fs t (interface now i k at few told none e) all = subst (AllByRecursion (λ (f : Frame). AllByRecursion P f.bytes)) (sym none) tt
 does-bytes P s order b kind fs t (packet now form f k at is one e) all =
     subst (AllByRecursion (λ (f : Frame). AllByRecursion P f.bytes)) (sym one) (
       subst (AllByRecursion P) (sym is.bytes)

@@ -8,10 +8,12 @@ use Rattle.rip_wire.specs.Fields.{number_at}
 use Rattle.rip_capture.specs.LinkTypes.{number_of}
 use Rattle.rip_capture.specs.Numbers.{number_in, short_in}
 use Rattle.rip_capture.specs.Pcap.{Frame}
-use Rattle.rip_capture.specs.Pcapng.{AreBlocks, BlockFault, BodyFault, Does, HasLength, HasOrder, HasPacketLength, IsBlock, IsSectionVersion, Section, begins_section, block_len, front_len, interface_in, interface_of, is_read_whole, kind_of, least_len, order_number, order_of, packet_from, packet_len}
+use Rattle.rip_capture.specs.Interfaces.{came_by}
+use Rattle.rip_capture.specs.Pcapng.{AreBlocks, BlockFault, BodyFault, Does, HasLength, HasOrder, HasPacketLength, IsBlock, IsSectionVersion, Section, begins_section, block_len, front_len, interface_in, interface_of, is_read_whole, kind_of, least_len, order_number, order_of, packet_from, packet_len, options_in, packet_time}
+use Rattle.rip_capture.proofs.OptionLemmas.{option-cases}
 use Rattle.rip_capture.specs.Pcapng.AreBlocks.{none as no_blocks, more as more_blocks}
 use Rattle.rip_capture.specs.Pcapng.BlockFault.{front as short_front, order as no_order, ordered}
-use Rattle.rip_capture.specs.Pcapng.BodyFault.{version as bad_version, full as too_many, packet as bad_packet}
+use Rattle.rip_capture.specs.Pcapng.BodyFault.{version as bad_version, full as too_many, options as bad_options, packet as bad_packet}
 use Rattle.rip_capture.specs.Pcapng.Does.{section as does_section, interface as does_interface, packet as does_packet, other as does_nothing}
 use Rattle.rip_capture.specs.Pcapng.HasOrder.{own, inherited as of_section}
 use Rattle.rip_capture.specs.Pcapng.OrderedFault.{size as bad_size, old as old_packet, cut as cut_block, end as bad_end, body as bad_body}
@@ -21,7 +23,7 @@ use Rattle.rip_capture.proofs.LinkLemmas.{type-cases}
 use Rattle.rip_capture.proofs.PcapngLemmas.{StopsAtBlock, block-least, section-kind}
 use Rattle.rip_capture.specs.declared.blocks.BlockKind.{BlockKind}
 use Rattle.rip_capture.specs.declared.blocks.BlockKind.TheVariants as kinds
-use Rattle.rip_capture.specs.declared.blocks.Interface.{Interface}
+use Rattle.rip_capture.specs.declared.interface.Interface.{Interface}
 use Rattle.rip_capture.specs.declared.blocks.PacketForm.{PacketForm}
 use Rattle.rip_capture.specs.declared.error.CaptureCode.{CaptureCode}
 use Rattle.rip_capture.specs.declared.error.CaptureCode.TheVariants as codes
@@ -119,8 +121,13 @@ packet-cases now order b form =
       packet-does : (i : Interface) → slice_get now.interfaces (interface_of order form b) ≡ Some i → HasPacketLength order form b i → (t : LinkType) → number_of t ≡ i.link_number →
           DoesSo (Some now) order b (kinds.Packet form)
       packet-does i described can t link =
-          let frame : Frame = record { link_type = t; bytes = slice_range b (packet_from form) (packet_from form + packet_len order form b i) } in
-          (frame ∷ [], now, does_packet now form frame refl refl (record { interface = i; described = described; can = can; link = link; bytes = refl }) refl refl)
+          let frame : Frame = record {
+            link_type = t;
+            bytes = slice_range b (packet_from form) (packet_from form + packet_len order form b i);
+            interface = came_by now.interfaces (interface_of order form b);
+            time = packet_time order form b i;
+          } in
+          (frame ∷ [], now, does_packet now form frame refl refl (record { interface = i; described = described; can = can; link = link; bytes = refl; came = refl; time = refl }) refl refl)
 
 does-cases : (s : Option Section) (order : Order) (b : List ℕ) (kind : BlockKind) → kind ≢ kinds.OldPacket → (s ≡ None → kind ≡ kinds.Section) → DoesSo s order b kind ⊎ HasBodyFault s order b kind
 does-cases s order b kinds.Section young only =
@@ -134,7 +141,11 @@ does-cases None order b (kinds.Packet form) young only = absurd (cc (only refl))
 does-cases None order b kinds.Other young only = absurd (cc (only refl))
 does-cases (Some now) order b kinds.Interface young only =
     elim (cases_lt (length now.interfaces) 256) [
-      | inl few ↦ inl ([], record { order = now.order; interfaces = now.interfaces ++ interface_in order b ∷ [] }, does_interface now refl refl few refl refl)
+      | inl few ↦
+          elim (option-cases order (options_in b) (interface_in order b)) [
+            | inl told ↦ inl ([], record { order = now.order; interfaces = now.interfaces ++ told.0 ∷ [] }, does_interface now told.0 refl refl few told.1 refl refl)
+            | inr wrong ↦ inr (codes.Length, bad_options now refl refl few wrong refl)
+          ]
       | inr many ↦ inr (codes.Interface, too_many now refl refl (omega (arith, many)) refl)
     ]
 does-cases (Some now) order b (kinds.Packet form) young only = packet-cases now order b form

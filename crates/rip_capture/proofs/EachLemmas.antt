@@ -9,7 +9,7 @@ use Rattle.rip_capture.specs.Captures.FrontFault.{short as too_short, magic as n
 use Rattle.rip_capture.specs.Captures.HasMagic.{pcap as pcap_kind, pcapng as pcapng_kind}
 use Rattle.rip_capture.specs.Captures.IsCapture.{pcap as pcap_capture, pcapng as pcapng_capture}
 use Rattle.rip_capture.specs.Numbers.{short_in}
-use Rattle.rip_capture.specs.Pcap.{AreRecords, Frame, IsMagic, IsPcap, IsPcapHeader, IsRecord, IsVersion, RecordFault, captured_len, link_number}
+use Rattle.rip_capture.specs.Pcap.{AreRecords, Frame, IsMagic, IsPcap, IsPcapHeader, IsRecord, IsVersion, RecordFault, captured_len, frame_in, link_number, resolution_in}
 use Rattle.rip_capture.specs.Pcap.HeaderFault.{cut as cut_header, version as bad_version, link_type as bad_type}
 use Rattle.rip_capture.specs.Pcap.RecordFault.{header as short_record, long as long_record, packet as cut_record}
 use Rattle.rip_capture.specs.Pcapng.{AreBlocks, Section, begins_section}
@@ -19,7 +19,7 @@ use Rattle.rip_capture.proofs.PcapngLemmas.{StopsAtBlock}
 use Rattle.rip_capture.proofs.PcapLemmas.{header-front, record-of}
 use Rattle.rip_capture.specs.declared.error.CaptureCode.{CaptureCode}
 use Rattle.rip_capture.specs.declared.error.CaptureCode.TheVariants as codes
-use Rattle.rip_capture.specs.declared.link.LinkType.{LinkType}
+use Rattle.rip_capture.specs.declared.pcap.Framing.{Framing}
 use Rattle.rip_capture.specs.declared.numbers.Order.{Order}
 use Rattle.rip_capture.specs.declared.numbers.Order.TheVariants.{Big, Little}
 
@@ -66,7 +66,7 @@ Stops order rest None = rest ≡ []
 Stops order rest (Some code) = RecordFault order rest code
 
 -- bytes are records, and end so
-record Walk (o : Order) (t : LinkType) (b : List ℕ) : Type 0 where
+record Walk (o : Order) (t : Framing) (b : List ℕ) : Type 0 where
   frames : List Frame
   records : List ℕ
   rest : List ℕ
@@ -75,10 +75,10 @@ record Walk (o : Order) (t : LinkType) (b : List ℕ) : Type 0 where
   stops : Stops o rest ends
   whole : b ≡ records ++ rest
 
-walk-end : (o : Order) (t : LinkType) (b : List ℕ) (ends : Option CaptureCode) → Stops o b ends → Walk o t b
+walk-end : (o : Order) (t : Framing) (b : List ℕ) (ends : Option CaptureCode) → Stops o b ends → Walk o t b
 walk-end o t b ends stops = record { frames = []; records = []; rest = b; ends = ends; are = refl; stops = stops; whole = refl }
 
-walk-more : (o : Order) (t : LinkType) (first b : List ℕ) (frame : Frame) → IsRecord o t first frame → Walk o t b → Walk o t (first ++ b)
+walk-more : (o : Order) (t : Framing) (first b : List ℕ) (frame : Frame) → IsRecord o t first frame → Walk o t b → Walk o t (first ++ b)
 walk-more o t first b frame is w = record {
   frames = frame ∷ w.frames;
   records = first ++ w.records;
@@ -89,11 +89,11 @@ walk-more o t first b frame is w = record {
   whole = ap (λ (l : List ℕ). first ++ l) w.whole ∙ sym (append_assoc first w.records w.rest);
 }
 
-walk-on : (o : Order) (t : LinkType) (b : List ℕ) (n : ℕ) → IsRecord o t (take (16 + n) b) (record { link_type = t; bytes = drop 16 (take (16 + n) b) }) → Walk o t (drop (16 + n) b) → Walk o t b
+walk-on : (o : Order) (t : Framing) (b : List ℕ) (n : ℕ) → IsRecord o t (take (16 + n) b) (frame_in o t (take (16 + n) b)) → Walk o t (drop (16 + n) b) → Walk o t b
 walk-on o t b n is w =
-    subst (λ (l : List ℕ). Walk o t l) (take-append-drop (16 + n) b) (walk-more o t (take (16 + n) b) (drop (16 + n) b) (record { link_type = t; bytes = drop 16 (take (16 + n) b) }) is w)
+    subst (λ (l : List ℕ). Walk o t l) (take-append-drop (16 + n) b) (walk-more o t (take (16 + n) b) (drop (16 + n) b) (frame_in o t (take (16 + n) b)) is w)
 
-walk : (fuel : ℕ) (o : Order) (t : LinkType) (b : List ℕ) → length b < fuel → Walk o t b
+walk : (fuel : ℕ) (o : Order) (t : Framing) (b : List ℕ) → length b < fuel → Walk o t b
 walk zero o t b less = absurd (omega arith)
 walk (suc fuel) o t b less =
     elim (cases_lt 0 (length b)) [
@@ -130,14 +130,14 @@ front-faulty : (b : List ℕ) (code : CaptureCode) → FrontFault b code → Has
 front-faulty b code f = record { frames = []; code = code; at = 0; is = at_front refl refl f }
 
 -- behind its header
-ends-as : (o : Order) (t : LinkType) (b : List ℕ) (frames : List Frame) (right rest : List ℕ) (ends : Option CaptureCode) → IsPcap right o t frames → Stops o rest ends → b ≡ right ++ rest →
+ends-as : (o : Order) (t : Framing) (b : List ℕ) (frames : List Frame) (right rest : List ℕ) (ends : Option CaptureCode) → IsPcap right o t frames → Stops o rest ends → b ≡ right ++ rest →
     HasFrames b ⊎ HasFault b
 ends-as o t b frames right rest None is stops whole =
     inl (frames, pcap_capture o t (subst (λ (l : List ℕ). IsPcap l o t frames) (sym (whole ∙ ap (λ (l : List ℕ). right ++ l) stops ∙ append-nil right)) is))
 ends-as o t b frames right rest (Some code) is stops whole =
     inr (record { frames = frames; code = code; at = length right; is = in_pcap o t right rest whole is refl stops })
 
-behind-header : (o : Order) (t : LinkType) (b : List ℕ) → IsPcapHeader (take 24 b) o t → Walk o t (drop 24 b) → HasFrames b ⊎ HasFault b
+behind-header : (o : Order) (t : Framing) (b : List ℕ) → IsPcapHeader (take 24 b) o t → Walk o t (drop 24 b) → HasFrames b ⊎ HasFault b
 behind-header o t b header w =
     ends-as o t b w.frames (take 24 b ++ w.records) w.rest w.ends
     (record { header = take 24 b; records = w.records; is_header = header; are_records = w.are; whole = refl })
@@ -156,7 +156,8 @@ behind-magic o b begun magic =
                 elim (type-cases (link_number o b)) [
                   | inr none ↦ inr (front-faulty b codes.LinkType (pcap_front o begun magic (bad_type room version none refl)))
                   | inl has ↦
-                      behind-header o has.0 b (header-front o has.0 b room magic version has.1) (walk (suc (length b)) o has.0 (drop 24 b) (omega (arith, length-drop 24 b)))
+                      let t : Framing = record { link_type = has.0; resolution = resolution_in o b } in
+                      behind-header o t b (header-front o t b room magic version has.1 refl) (walk (suc (length b)) o t (drop 24 b) (omega (arith, length-drop 24 b)))
                 ]
           ]
     ]

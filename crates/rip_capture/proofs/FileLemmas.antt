@@ -1,5 +1,5 @@
 -- A file is one capture, or has one fault.
-use Rattle.std.proofs.Common.{◌≡◌, ◌≢◌, ◌+◌, ◌*◌, ◌%◌, ◌^◌, ◌<◌, ◌≤◌, ◌∙◌, ℕ, true, List, [], ◌∷◌, ◌++◌, Option, Some, None, length, drop, ap, sym, refl, inl, inr, subst, arith, append_assoc, append-nil}
+use Rattle.std.proofs.Common.{◌≡◌, ◌≢◌, ◌+◌, ◌*◌, ◌%◌, ◌^◌, ◌<◌, ◌≤◌, ◌∙◌, ℕ, true, List, [], ◌∷◌, ◌++◌, Option, Some, None, length, ap, sym, refl, inl, inr, subst, arith, append_assoc, append-nil}
 use Rattle.std.proofs.lemmas.Bool.{eqb-true}
 use Rattle.std.proofs.lemmas.List.{append_cancel_left, length-append, length-drop}
 use Rattle.rip_wire.specs.Fields.{number_at}
@@ -9,7 +9,7 @@ use Rattle.rip_capture.specs.Captures.FrontFault.{short as too_short, magic as n
 use Rattle.rip_capture.specs.Captures.HasMagic.{pcap as pcap_kind, pcapng as pcapng_kind}
 use Rattle.rip_capture.specs.Captures.IsCapture.{pcap as pcap_capture, pcapng as pcapng_capture}
 use Rattle.rip_capture.specs.Feeds.{Extends}
-use Rattle.rip_capture.specs.Pcap.{AreRecords, Frame, HeaderFault, HoldsRecord, IsMagic, IsMagicNumber, IsPcap, IsPcapHeader, IsRecord, RecordFault, captured_len, link_number}
+use Rattle.rip_capture.specs.Pcap.{AreRecords, Frame, HeaderFault, HoldsRecord, IsMagic, IsMagicNumber, IsPcap, IsPcapHeader, IsRecord, RecordFault, captured_len, frame_in, link_number, resolution_in}
 use Rattle.rip_capture.specs.Pcap.HeaderFault.{cut as cut_header, version as bad_version, link_type as bad_type}
 use Rattle.rip_capture.specs.Pcap.RecordFault.{header as short_record, long as long_record, packet as cut_record}
 use Rattle.rip_capture.specs.Pcapng.{AreBlocks, Does, IsBlock, Section, begins_section, kind_of, order_of}
@@ -22,6 +22,7 @@ use Rattle.rip_capture.proofs.NumberLemmas.{magic-front, magic-stays, number-sta
 use Rattle.rip_capture.specs.declared.error.CaptureCode.{CaptureCode}
 use Rattle.rip_capture.specs.declared.error.CaptureCode.TheVariants as codes
 use Rattle.rip_capture.specs.declared.link.LinkType.{LinkType}
+use Rattle.rip_capture.specs.declared.pcap.Framing.{Framing}
 use Rattle.rip_capture.specs.declared.numbers.Order.{Order}
 use Rattle.rip_capture.specs.declared.numbers.Order.TheVariants.{Big, Little}
 
@@ -81,32 +82,26 @@ Stops-one order rest (Some c) None h k = absurd (omega (arith, ap length k, faul
 Stops-one order rest (Some c) (Some d) h k = ap Some (RecordFault-one order rest c d h k)
 
 -- how long a record is
-record-size : (order : Order) (t : LinkType) (first : List ℕ) (frame : Frame) → IsRecord order t first frame → length first ≡ 16 + captured_len order first
+record-size : (order : Order) (t : Framing) (first : List ℕ) (frame : Frame) → IsRecord order t first frame → length first ≡ 16 + captured_len order first
 record-size order t first frame is =
-    let n = is.captured ∙ ap length is.behind ∙ length-drop 16 first in
-    omega (arith, n, is.header)
+    omega (arith, is.captured ∙ length-drop 16 first, is.header)
 
-captured-stays : (order : Order) (t : LinkType) (first rest : List ℕ) (frame : Frame) → IsRecord order t first frame → captured_len order (first ++ rest) ≡ captured_len order first
+captured-stays : (order : Order) (t : Framing) (first rest : List ℕ) (frame : Frame) → IsRecord order t first frame → captured_len order (first ++ rest) ≡ captured_len order first
 captured-stays order t first rest frame is = number-stays order 8 first (first ++ rest) (omega (arith, is.header)) (front-of first rest)
 
 -- no fault where a record is
-no_fault : (order : Order) (t : LinkType) (first rest : List ℕ) (frame : Frame) (code : CaptureCode) → IsRecord order t first frame → RecordFault order (first ++ rest) code → ⊥
+no_fault : (order : Order) (t : Framing) (first rest : List ℕ) (frame : Frame) (code : CaptureCode) → IsRecord order t first frame → RecordFault order (first ++ rest) code → ⊥
 no_fault order t first rest frame code is (short_record some less e) = omega (arith, is.header, length-append first rest)
 no_fault order t first rest frame code is (long_record room more e) = omega (arith, captured-stays order t first rest frame is, is.captured, is.few)
 no_fault order t first rest frame code is (cut_record room few less e) =
     omega (arith, captured-stays order t first rest frame is, record-size order t first frame is, length-append first rest)
 
-no_stop : (order : Order) (t : LinkType) (first rest : List ℕ) (frame : Frame) (o : Option CaptureCode) → IsRecord order t first frame → Stops order (first ++ rest) o → ⊥
+no_stop : (order : Order) (t : Framing) (first rest : List ℕ) (frame : Frame) (o : Option CaptureCode) → IsRecord order t first frame → Stops order (first ++ rest) o → ⊥
 no_stop order t first rest frame None is h = omega (arith, is.header, ap length h, length-append first rest)
 no_stop order t first rest frame (Some code) is h = no_fault order t first rest frame code is h
 
-frame-is : (order : Order) (t : LinkType) (first : List ℕ) (frame : Frame) → IsRecord order t first frame → frame ≡ record { link_type = t; bytes = drop 16 first }
-frame-is order t first frame is =
-    let made : LinkType → List ℕ → Frame = λ u b. record { link_type = u; bytes = b } in
-    ap (λ (u : LinkType). made u frame.bytes) is.link ∙ ap (λ (b : List ℕ). made t b) is.behind
-
 -- the first record, where two are told
-first-one : (order : Order) (t : LinkType) (a b c d : List ℕ) (f g : Frame) → IsRecord order t a f → IsRecord order t c g → a ++ b ≡ c ++ d → (a ≡ c) × (b ≡ d) × (f ≡ g)
+first-one : (order : Order) (t : Framing) (a b c d : List ℕ) (f g : Frame) → IsRecord order t a f → IsRecord order t c g → a ++ b ≡ c ++ d → (a ≡ c) × (b ≡ d) × (f ≡ g)
 first-one order t a b c d f g is js e =
     let size : length a ≡ length c = omega (
       arith,
@@ -118,7 +113,7 @@ first-one order t a b c d f g is js e =
           (captured_len order) e,
     ) in
     let p = parts a b c d size e in
-    (p.0, p.1, frame-is order t a f is ∙ ap (λ (l : List ℕ). record { link_type = t; bytes = drop 16 l }) p.0 ∙ sym (frame-is order t c g js))
+    (p.0, p.1, is.frame_is ∙ ap (frame_in order t) p.0 ∙ sym js.frame_is)
 
 -- records, and how they end, are one thing
 pub record One (fs gs : List Frame) (o p : Option CaptureCode) (xs ys : List ℕ) : Type 0 where
@@ -126,7 +121,7 @@ pub record One (fs gs : List Frame) (o p : Option CaptureCode) (xs ys : List ℕ
   pub ends : o ≡ p
   pub size : length xs ≡ length ys
 
-records-one : (order : Order) (t : LinkType) (fs gs : List Frame) (xs ys rest last : List ℕ) (o p : Option CaptureCode) → AreRecords order t xs fs → Stops order rest o → AreRecords order t ys gs →
+records-one : (order : Order) (t : Framing) (fs gs : List Frame) (xs ys rest last : List ℕ) (o p : Option CaptureCode) → AreRecords order t xs fs → Stops order rest o → AreRecords order t ys gs →
     Stops order last p → xs ++ rest ≡ ys ++ last → One fs gs o p xs ys
 records-one order t [] [] xs ys rest last o p h s k r e =
     let same : rest ≡ last = ap (λ (l : List ℕ). l ++ rest) (sym h) ∙ e ∙ ap (λ (l : List ℕ). l ++ last) k in
@@ -150,13 +145,13 @@ records-one order t (f ∷ fs) (g ∷ gs) xs ys rest last o p h s k r e =
 
 -- ---- where no whole record is left, there are no more of them
 
-holds-record : (order : Order) (t : LinkType) (first rest : List ℕ) (frame : Frame) → IsRecord order t first frame → HoldsRecord order (first ++ rest)
+holds-record : (order : Order) (t : Framing) (first rest : List ℕ) (frame : Frame) → IsRecord order t first frame → HoldsRecord order (first ++ rest)
 holds-record order t first rest frame is = record {
   header = omega (arith, is.header, length-append first rest);
   packet = omega (arith, captured-stays order t first rest frame is, record-size order t first frame is, length-append first rest);
 }
 
-records-most : (order : Order) (t : LinkType) (fs gs : List Frame) (xs ys rest last : List ℕ) → AreRecords order t xs fs → ¬ HoldsRecord order rest → AreRecords order t ys gs →
+records-most : (order : Order) (t : Framing) (fs gs : List Frame) (xs ys rest last : List ℕ) → AreRecords order t xs fs → ¬ HoldsRecord order rest → AreRecords order t ys gs →
     xs ++ rest ≡ ys ++ last → length gs ≤ length fs
 records-most order t fs [] xs ys rest last h none k e = omega arith
 records-most order t [] (g ∷ gs) xs ys rest last h none k e =
@@ -170,13 +165,16 @@ records-most order t (f ∷ fs) (g ∷ gs) xs ys rest last h none k e =
 
 -- ---- whole files
 
-header-order : (o p : Order) (t u : LinkType) (a b : List ℕ) → IsPcapHeader a o t → IsPcapHeader b p u → a ≡ b → (o ≡ p) × (t ≡ u)
+header-order : (o p : Order) (t u : Framing) (a b : List ℕ) → IsPcapHeader a o t → IsPcapHeader b p u → a ≡ b → (o ≡ p) × (t ≡ u)
 header-order o p t u a b h k e =
     let orders : o ≡ p = one_order o p (number_at 4 0 b) (subst (λ (l : List ℕ). IsMagic o l) e h.magic) k.magic in
-    (orders, one_type t u (h.link ∙ ap (link_number o) e ∙ ap (λ (x : Order). link_number x b) orders ∙ sym k.link))
+    let types = one_type t.link_type u.link_type (h.link ∙ ap (link_number o) e ∙ ap (λ (x : Order). link_number x b) orders ∙ sym k.link) in
+    let units : t.resolution ≡ u.resolution = h.unit ∙ ap (resolution_in o) e ∙ ap (λ (x : Order). resolution_in x b) orders ∙ sym k.unit in
+    let made : LinkType → ℕ → Framing = λ l r. record { link_type = l; resolution = r } in
+    (orders, ap (λ (l : LinkType). made l t.resolution) types ∙ ap (made u.link_type) units)
 
 -- files that begin with the same bytes, and how they end
-pcap-one : (o p : Order) (t u : LinkType) (a b : List ℕ) (fs gs : List Frame) (rest last : List ℕ) (x y : Option CaptureCode) → IsPcap a o t fs → Stops o rest x → IsPcap b p u gs → Stops p last y →
+pcap-one : (o p : Order) (t u : Framing) (a b : List ℕ) (fs gs : List Frame) (rest last : List ℕ) (x y : Option CaptureCode) → IsPcap a o t fs → Stops o rest x → IsPcap b p u gs → Stops p last y →
     a ++ rest ≡ b ++ last → One fs gs x y a b
 pcap-one o p t u a b fs gs rest last x y h s k r e =
     let both : h.header ++ (h.records ++ rest) ≡ k.header ++ (k.records ++ last) =
@@ -184,7 +182,7 @@ pcap-one o p t u a b fs gs rest last x y h s k r e =
     let split = parts h.header (h.records ++ rest) k.header (k.records ++ last) (h.is_header.size ∙ sym k.is_header.size) both in
     let same = header-order o p t u h.header k.header h.is_header k.is_header split.0 in
     let stops : Stops p rest x = subst (λ (z : Order). Stops z rest x) same.0 s in
-    let records : AreRecords p u h.records fs = subst (λ (z : LinkType). AreRecords p z h.records fs) same.1 (subst (λ (z : Order). AreRecords z t h.records fs) same.0 h.are_records) in
+    let records : AreRecords p u h.records fs = subst (λ (z : Framing). AreRecords p z h.records fs) same.1 (subst (λ (z : Order). AreRecords z t h.records fs) same.0 h.are_records) in
     let on = records-one p u fs gs h.records k.records rest last x y records stops k.are_records r split.1 in
     record {
       frames = on.frames;
@@ -192,27 +190,27 @@ pcap-one o p t u a b fs gs rest last x y h s k r e =
       size = ap length h.whole ∙ length-append h.header h.records ∙ omega (arith, h.is_header.size, k.is_header.size, on.size) ∙ sym (length-append k.header k.records) ∙ sym (ap length k.whole);
     }
 
-pcap-most : (o p : Order) (t u : LinkType) (a b : List ℕ) (fs gs : List Frame) (rest last : List ℕ) → IsPcap a o t fs → ¬ HoldsRecord o rest → IsPcap b p u gs → a ++ rest ≡ b ++ last →
+pcap-most : (o p : Order) (t u : Framing) (a b : List ℕ) (fs gs : List Frame) (rest last : List ℕ) → IsPcap a o t fs → ¬ HoldsRecord o rest → IsPcap b p u gs → a ++ rest ≡ b ++ last →
     length gs ≤ length fs
 pcap-most o p t u a b fs gs rest last h none k e =
     let both : h.header ++ (h.records ++ rest) ≡ k.header ++ (k.records ++ last) =
     sym (ap (λ (l : List ℕ). l ++ rest) h.whole ∙ append_assoc h.header h.records rest) ∙ e ∙ ap (λ (l : List ℕ). l ++ last) k.whole ∙ append_assoc k.header k.records last in
     let split = parts h.header (h.records ++ rest) k.header (k.records ++ last) (h.is_header.size ∙ sym k.is_header.size) both in
     let same = header-order o p t u h.header k.header h.is_header k.is_header split.0 in
-    let records : AreRecords p u h.records fs = subst (λ (z : LinkType). AreRecords p z h.records fs) same.1 (subst (λ (z : Order). AreRecords z t h.records fs) same.0 h.are_records) in
+    let records : AreRecords p u h.records fs = subst (λ (z : Framing). AreRecords p z h.records fs) same.1 (subst (λ (z : Order). AreRecords z t h.records fs) same.0 h.are_records) in
     records-most p u fs gs h.records k.records rest last records (subst (λ (z : Order). ¬ HoldsRecord z rest) same.0 none) k.are_records split.1
 
-header-size : (b : List ℕ) (o : Order) (t : LinkType) (fs : List Frame) → IsPcap b o t fs → 24 ≤ length b
+header-size : (b : List ℕ) (o : Order) (t : Framing) (fs : List Frame) → IsPcap b o t fs → 24 ≤ length b
 header-size b o t fs h = omega (arith, ap length h.whole, length-append h.header h.records, h.is_header.size)
 
-header-on : (b : List ℕ) (o : Order) (t : LinkType) (fs : List Frame) (rest : List ℕ) (h : IsPcap b o t fs) → Extends h.header (b ++ rest)
+header-on : (b : List ℕ) (o : Order) (t : Framing) (fs : List Frame) (rest : List ℕ) (h : IsPcap b o t fs) → Extends h.header (b ++ rest)
 header-on b o t fs rest h = record {
   more = h.records ++ rest;
   whole = ap (λ (l : List ℕ). l ++ rest) h.whole ∙ append_assoc h.header h.records rest;
 }
 
 -- a pcap file begins with its magic, a pcapng file with a section, and none with both
-pcap-begins : (b rest : List ℕ) (o : Order) (t : LinkType) (fs : List Frame) → IsPcap b o t fs → IsMagic o (b ++ rest)
+pcap-begins : (b rest : List ℕ) (o : Order) (t : Framing) (fs : List Frame) → IsPcap b o t fs → IsMagic o (b ++ rest)
 pcap-begins b rest o t fs h = magic-stays o h.header (b ++ rest) (omega (arith, h.is_header.size)) (header-on b o t fs rest h) h.is_header.magic
 
 section-begins : (b rest : List ℕ) (fs : List Frame) (now : Section) → AreBlocks None b fs (Some now) → begins_section (b ++ rest) ≡ true
@@ -230,7 +228,7 @@ no-both : (o : Order) (b : List ℕ) → IsMagic o b → begins_section b ≡ tr
 no-both o b magic begins = no-number o (number_at 4 0 b) magic (eqb-true (number_at 4 0 b) 0x0A0D0D0A begins)
 
 -- behind records of which no whole one follows, and in front of a header, there are no more packets
-pub record-most : (o : Order) (t : LinkType) (taken rest : List ℕ) (frames : List Frame) → IsPcap taken o t frames → ¬ HoldsRecord o rest → HasNoMore (taken ++ rest) frames
+pub record-most : (o : Order) (t : Framing) (taken rest : List ℕ) (frames : List Frame) → IsPcap taken o t frames → ¬ HoldsRecord o rest → HasNoMore (taken ++ rest) frames
 record-most o t taken rest frames h none front last others e (pcap_capture p u k) = pcap-most o p t u taken front frames others rest last h none k e
 record-most o t taken rest frames h none front last others e (pcapng_capture now k) =
     absurd (no-both o (taken ++ rest) (pcap-begins taken rest o t frames h) (subst (λ (l : List ℕ). begins_section l ≡ true) (sym e) (section-begins front last others now k)))
@@ -250,14 +248,14 @@ block-most s taken rest frames room begins are none front last others e (pcapng_
     blocks-most None s (Some now) frames others taken front rest last are none k e
 
 -- a front that is right has no fault
-no_header_fault : (b : List ℕ) (o : Order) (t : LinkType) (fs : List Frame) (rest : List ℕ) (code : CaptureCode) → IsPcap b o t fs → HeaderFault o (b ++ rest) code → ⊥
+no_header_fault : (b : List ℕ) (o : Order) (t : Framing) (fs : List Frame) (rest : List ℕ) (code : CaptureCode) → IsPcap b o t fs → HeaderFault o (b ++ rest) code → ⊥
 no_header_fault b o t fs rest code h (cut_header less e) = omega (arith, length-append b rest, header-size b o t fs h)
 no_header_fault b o t fs rest code h (bad_version room bad e) =
     bad (version-stays o h.header (b ++ rest) (omega (arith, h.is_header.size)) (header-on b o t fs rest h) h.is_header.version)
 no_header_fault b o t fs rest code h (bad_type room v none e) =
-    none t (h.is_header.link ∙ ap (λ (n : ℕ). n % 2 ^ 26) (sym (number-stays o 20 h.header (b ++ rest) (omega (arith, h.is_header.size)) (header-on b o t fs rest h))))
+    none t.link_type (h.is_header.link ∙ ap (λ (n : ℕ). n % 2 ^ 26) (sym (number-stays o 20 h.header (b ++ rest) (omega (arith, h.is_header.size)) (header-on b o t fs rest h))))
 
-no_front_fault : (b : List ℕ) (o : Order) (t : LinkType) (fs : List Frame) (rest : List ℕ) (code : CaptureCode) → IsPcap b o t fs → FrontFault (b ++ rest) code → ⊥
+no_front_fault : (b : List ℕ) (o : Order) (t : Framing) (fs : List Frame) (rest : List ℕ) (code : CaptureCode) → IsPcap b o t fs → FrontFault (b ++ rest) code → ⊥
 no_front_fault b o t fs rest code h (too_short less e) = omega (arith, length-append b rest, header-size b o t fs h)
 no_front_fault b o t fs rest code h (no_kind room none e) =
     none (pcap_kind o (magic-stays o h.header (b ++ rest) (omega (arith, h.is_header.size)) (header-on b o t fs rest h) h.is_header.magic))
@@ -290,7 +288,7 @@ captures-one b fs gs (pcapng_capture now h) (pcap_capture p u k) =
 captures-one b fs gs (pcapng_capture now h) (pcapng_capture now' k) =
     (blocks-one None (Some now) (Some now') fs gs b b [] [] None None h refl k refl refl).frames
 
-magic-whole : (b : List ℕ) (o : Order) (t : LinkType) (fs : List Frame) → IsPcap b o t fs → IsMagic o b
+magic-whole : (b : List ℕ) (o : Order) (t : Framing) (fs : List Frame) → IsPcap b o t fs → IsMagic o b
 magic-whole b o t fs h = subst (IsMagic o) (append-nil b) (pcap-begins b [] o t fs h)
 
 section-whole : (b : List ℕ) (fs : List Frame) (now : Section) → AreBlocks None b fs (Some now) → begins_section b ≡ true
@@ -378,7 +376,7 @@ fault-on b more fs code at uncut (in_pcapng s right rest room begins whole h pla
 
 -- ---- a capture has a header in front of each packet
 
-records-long : (order : Order) (t : LinkType) (b : List ℕ) (fs : List Frame) → AreRecords order t b fs → 16 * length fs ≤ length b
+records-long : (order : Order) (t : Framing) (b : List ℕ) (fs : List Frame) → AreRecords order t b fs → 16 * length fs ≤ length b
 records-long order t b [] h = omega arith
 records-long order t b (f ∷ fs) (first, rest, is, are, whole) =
     let rest_long = records-long order t rest fs are in
@@ -395,7 +393,7 @@ capture-long b fs (pcapng_capture now h) = blocks-long None (Some now) b fs h
 
 -- ---- a record or a block with a packet is the next
 
-same-records : (order : Order) (t : LinkType) (fs gs : List Frame) (xs ys rest last : List ℕ) → AreRecords order t xs fs → AreRecords order t ys gs → fs ≡ gs → xs ++ rest ≡ ys ++ last → xs ≡ ys
+same-records : (order : Order) (t : Framing) (fs gs : List Frame) (xs ys rest last : List ℕ) → AreRecords order t xs fs → AreRecords order t ys gs → fs ≡ gs → xs ++ rest ≡ ys ++ last → xs ≡ ys
 same-records order t [] [] xs ys rest last h k same e = h ∙ sym k
 same-records order t [] (g ∷ gs) xs ys rest last h k same e = cc same
 same-records order t (f ∷ fs) [] xs ys rest last h k same e = cc same
@@ -407,20 +405,20 @@ same-records order t (f ∷ fs) (g ∷ gs) xs ys rest last h k same e =
     let on = same-records order t fs gs h.1 k.1 rest last h.3 k.3 tails first.1 in
     h.4 ∙ ap (λ (l : List ℕ). l ++ h.1) first.0 ∙ ap (λ (l : List ℕ). k.0 ++ l) on ∙ sym k.4
 
-same-pcap : (o p : Order) (t u : LinkType) (a b : List ℕ) (fs : List Frame) (rest last : List ℕ) → IsPcap a o t fs → IsPcap b p u fs → a ++ rest ≡ b ++ last → a ≡ b
+same-pcap : (o p : Order) (t u : Framing) (a b : List ℕ) (fs : List Frame) (rest last : List ℕ) → IsPcap a o t fs → IsPcap b p u fs → a ++ rest ≡ b ++ last → a ≡ b
 same-pcap o p t u a b fs rest last h k e =
     let both : h.header ++ (h.records ++ rest) ≡ k.header ++ (k.records ++ last) =
     sym (ap (λ (l : List ℕ). l ++ rest) h.whole ∙ append_assoc h.header h.records rest) ∙ e ∙ ap (λ (l : List ℕ). l ++ last) k.whole ∙ append_assoc k.header k.records last in
     let split = parts h.header (h.records ++ rest) k.header (k.records ++ last) (h.is_header.size ∙ sym k.is_header.size) both in
     let same = header-order o p t u h.header k.header h.is_header k.is_header split.0 in
-    let records : AreRecords p u h.records fs = subst (λ (z : LinkType). AreRecords p z h.records fs) same.1 (subst (λ (z : Order). AreRecords z t h.records fs) same.0 h.are_records) in
+    let records : AreRecords p u h.records fs = subst (λ (z : Framing). AreRecords p z h.records fs) same.1 (subst (λ (z : Order). AreRecords z t h.records fs) same.0 h.are_records) in
     let on = same-records p u fs fs h.records k.records rest last records k.are_records refl split.1 in
     h.whole ∙ ap (λ (l : List ℕ). l ++ h.records) split.0 ∙ ap (λ (l : List ℕ). k.header ++ l) on ∙ sym k.whole
 
 append-self : (xs ys : List ℕ) → xs ≡ xs ++ ys → ys ≡ []
 append-self xs ys e = append_cancel_left xs ys [] (sym e ∙ sym (append-nil xs))
 
-pub record-next : (o : Order) (t : LinkType) (front bytes : List ℕ) (frames : List Frame) → IsPcap front o t frames → IsNext front bytes frames
+pub record-next : (o : Order) (t : Framing) (front bytes : List ℕ) (frames : List Frame) → IsPcap front o t frames → IsNext front bytes frames
 record-next o t front bytes frames h part rest e (pcap_capture p u k) =
     append-self front part (same-pcap o p t u front (front ++ part) frames part [] h k (sym (append-nil (front ++ part))))
 record-next o t front bytes frames h part rest e (pcapng_capture now k) =
@@ -435,7 +433,7 @@ next-block now next front more frames frame order h is does part rest e (pcapng_
 
 no-first : (order : Order) (more : List ℕ) (kind : BlockKind) (frame : Frame) (next : Section) → Does None order more kind (frame ∷ []) next → ⊥
 no-first order more kind frame next (does_section k version none is) = cc none
-no-first order more kind frame next (does_interface now k at few none is) = cc at
+no-first order more kind frame next (does_interface now i k at few told none is) = cc at
 no-first order more kind frame next (does_packet now form f k at js one is) = cc at
 no-first order more kind frame next (does_nothing now k at none is) = cc at
 

@@ -2,8 +2,11 @@ pub mod AuthenticationRelations
 pub mod NumberLemmas
 pub mod FeedLemmas
 pub mod FrameLemmas
+pub mod VlanLemmas
 pub mod CarriedLemmas
+pub mod ClockLemmas
 pub mod LinkLemmas
+pub mod OptionLemmas
 pub mod PcapLemmas
 pub mod PcapngLemmas
 pub mod StepLemmas

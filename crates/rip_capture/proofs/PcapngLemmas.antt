@@ -9,10 +9,14 @@ use Rattle.rip_capture.specs.Finds.{LacksBlock}
 use Rattle.rip_capture.specs.Finds.LacksBlock.{front as lacks_front, rest as lacks_rest}
 use Rattle.rip_capture.specs.Numbers.{number_in}
 use Rattle.rip_capture.specs.Pcap.{Frame}
-use Rattle.rip_capture.specs.Pcapng.{AreBlocks, BlockFault, BodyFault, Does, HasLength, HasOrder, HasPacketLength, IsBlock, IsPacket, OrderedFault, PacketFault, Section, begins_section, block_len, front_len, interface_in, kind_numbered, kind_of, least_len, order_number, order_of, packet_from, packet_len}
+use Rattle.rip_capture.specs.Pcapng.{AreBlocks, BlockFault, BodyFault, Does, HasLength, HasOrder, HasPacketLength, IsBlock, IsPacket, OrderedFault, PacketFault, Section, begins_section, block_len, front_len, interface_in, kind_numbered, kind_of, least_len, order_number, order_of, packet_from, packet_len, options_in, packet_time}
+use Rattle.rip_capture.specs.Interfaces.{CameBy}
+use Rattle.rip_capture.proofs.OptionLemmas.{Describes-one, no-bad}
+use Rattle.rip_capture.specs.declared.link.LinkType.{LinkType}
+use Rattle.rip_capture.specs.declared.time.Time.{Time}
 use Rattle.rip_capture.specs.Pcapng.AreBlocks.{none as no_blocks, more as more_blocks}
 use Rattle.rip_capture.specs.Pcapng.BlockFault.{front as short_front, order as no_order, ordered}
-use Rattle.rip_capture.specs.Pcapng.BodyFault.{version as bad_version, full as too_many, packet as bad_packet}
+use Rattle.rip_capture.specs.Pcapng.BodyFault.{version as bad_version, full as too_many, options as bad_options, packet as bad_packet}
 use Rattle.rip_capture.specs.Pcapng.Does.{section as does_section, interface as does_interface, packet as does_packet, other as does_nothing}
 use Rattle.rip_capture.specs.Pcapng.HasOrder.{own, inherited as of_section}
 use Rattle.rip_capture.specs.Pcapng.OrderedFault.{size as bad_size, old as old_packet, cut as cut_block, end as bad_end, body as bad_body}
@@ -22,12 +26,11 @@ use Rattle.rip_capture.proofs.LinkLemmas.{one_type}
 use Rattle.rip_capture.proofs.NumberLemmas.{number-stays}
 use Rattle.rip_capture.specs.declared.blocks.BlockKind.{BlockKind}
 use Rattle.rip_capture.specs.declared.blocks.BlockKind.TheVariants as kinds
-use Rattle.rip_capture.specs.declared.blocks.Interface.{Interface}
+use Rattle.rip_capture.specs.declared.interface.Interface.{Interface}
 use Rattle.rip_capture.specs.declared.blocks.PacketForm.{PacketForm}
 use Rattle.rip_capture.specs.declared.blocks.PacketForm.TheVariants.{Simple, Enhanced}
 use Rattle.rip_capture.specs.declared.error.CaptureCode.{CaptureCode}
 use Rattle.rip_capture.specs.declared.error.CaptureCode.TheVariants as codes
-use Rattle.rip_capture.specs.declared.link.LinkType.{LinkType}
 use Rattle.rip_capture.specs.declared.numbers.Order.{Order}
 
 -- two lists with fronts of one length
@@ -70,22 +73,27 @@ packet-one order interfaces form b f g is js =
     let same : is.interface ≡ js.interface = cc (is.described, js.described) in
     let link : f.link_type ≡ g.link_type = one_type f.link_type g.link_type (is.link ∙ ap (λ (i : Interface). i.link_number) same ∙ sym js.link) in
     let bytes : f.bytes ≡ g.bytes = is.bytes ∙ ap (λ (i : Interface). slice_range b (packet_from form) (packet_from form + packet_len order form b i)) same ∙ sym js.bytes in
-    let made : LinkType → List ℕ → Frame = λ t l. record { link_type = t; bytes = l } in
-    ap (λ (t : LinkType). made t f.bytes) link ∙ ap (made g.link_type) bytes
+    let came : f.interface ≡ g.interface = is.came ∙ sym js.came in
+    let time : f.time ≡ g.time = is.time ∙ ap (packet_time order form b) same ∙ sym js.time in
+    let made : LinkType → List ℕ → CameBy → Option Time → Frame = λ t l i m. record { link_type = t; bytes = l; interface = i; time = m } in
+    ap (λ t. made t f.bytes f.interface f.time) link ∙ ap (λ l. made g.link_type l f.interface f.time) bytes ∙ ap (λ i. made g.link_type g.bytes i f.time) came
+    ∙ ap (made g.link_type g.bytes g.interface) time
 
 pub does-one : (s : Option Section) (order : Order) (b : List ℕ) (kind : BlockKind) (fs gs : List Frame) (t u : Section) → Does s order b kind fs t → Does s order b kind gs u → (fs ≡ gs) × (t ≡ u)
 does-one s order b kind fs gs t u (does_section k v none is) (does_section k' v' none' is') = (none ∙ sym none', is ∙ sym is')
-does-one s order b kind fs gs t u (does_section k v none is) (does_interface now k' at few none' is') = absurd (cc (k, k'))
+does-one s order b kind fs gs t u (does_section k v none is) (does_interface now i' k' at few told' none' is') = absurd (cc (k, k'))
 does-one s order b kind fs gs t u (does_section k v none is) (does_packet now form g k' at js one is') = absurd (cc (k, k'))
 does-one s order b kind fs gs t u (does_section k v none is) (does_nothing now k' at none' is') = absurd (cc (k, k'))
-does-one s order b kind fs gs t u (does_interface now k at few none is) (does_section k' v' none' is') = absurd (cc (k, k'))
-does-one s order b kind fs gs t u (does_interface now k at few none is) (does_interface now' k' at' few' none' is') =
+does-one s order b kind fs gs t u (does_interface now i k at few told none is) (does_section k' v' none' is') = absurd (cc (k, k'))
+does-one s order b kind fs gs t u (does_interface now i k at few told none is) (does_interface now' i' k' at' few' told' none' is') =
     let same : now ≡ now' = cc (at, at') in
-    (none ∙ sym none', is ∙ ap (λ (n : Section). record { order = n.order; interfaces = n.interfaces ++ interface_in order b ∷ [] }) same ∙ sym is')
-does-one s order b kind fs gs t u (does_interface now k at few none is) (does_packet now' form g k' at' js one is') = absurd (cc (k, k'))
-does-one s order b kind fs gs t u (does_interface now k at few none is) (does_nothing now' k' at' none' is') = absurd (cc (k, k'))
+    let one : i ≡ i' = Describes-one order (options_in b) (interface_in order b) i i' told told' in
+    let with : Interface → Section → Section = λ x n. record { order = n.order; interfaces = n.interfaces ++ x ∷ [] } in
+    (none ∙ sym none', is ∙ ap (with i) same ∙ ap (λ x. with x now') one ∙ sym is')
+does-one s order b kind fs gs t u (does_interface now i k at few told none is) (does_packet now' form g k' at' js one is') = absurd (cc (k, k'))
+does-one s order b kind fs gs t u (does_interface now i k at few told none is) (does_nothing now' k' at' none' is') = absurd (cc (k, k'))
 does-one s order b kind fs gs t u (does_packet now form f k at js one is) (does_section k' v' none' is') = absurd (cc (k, k'))
-does-one s order b kind fs gs t u (does_packet now form f k at js one is) (does_interface now' k' at' few' none' is') = absurd (cc (k, k'))
+does-one s order b kind fs gs t u (does_packet now form f k at js one is) (does_interface now' i' k' at' few' told' none' is') = absurd (cc (k, k'))
 does-one s order b kind fs gs t u (does_packet now form f k at js one is) (does_packet now' form' g k' at' js' one' is') =
     let same : now ≡ now' = cc (at, at') in
     let forms : form ≡ form' = cc (k, k') in
@@ -94,7 +102,7 @@ does-one s order b kind fs gs t u (does_packet now form f k at js one is) (does_
     (one ∙ ap (λ (x : Frame). x ∷ []) (packet-one order now'.interfaces form' b f g here js') ∙ sym one', is ∙ same ∙ sym is')
 does-one s order b kind fs gs t u (does_packet now form f k at js one is) (does_nothing now' k' at' none' is') = absurd (cc (k, k'))
 does-one s order b kind fs gs t u (does_nothing now k at none is) (does_section k' v' none' is') = absurd (cc (k, k'))
-does-one s order b kind fs gs t u (does_nothing now k at none is) (does_interface now' k' at' few' none' is') = absurd (cc (k, k'))
+does-one s order b kind fs gs t u (does_nothing now k at none is) (does_interface now' i' k' at' few' told' none' is') = absurd (cc (k, k'))
 does-one s order b kind fs gs t u (does_nothing now k at none is) (does_packet now' form g k' at' js one is') = absurd (cc (k, k'))
 does-one s order b kind fs gs t u (does_nothing now k at none is) (does_nothing now' k' at' none' is') =
     let same : now ≡ now' = cc (at, at') in
@@ -102,13 +110,14 @@ does-one s order b kind fs gs t u (does_nothing now k at none is) (does_nothing 
 
 does-young : (s : Option Section) (order : Order) (b : List ℕ) (kind : BlockKind) (fs : List Frame) (t : Section) → Does s order b kind fs t → kind ≢ kinds.OldPacket
 does-young s order b kind fs t (does_section k v none is) old = cc (k, old)
-does-young s order b kind fs t (does_interface now k at few none is) old = cc (k, old)
+does-young s order b kind fs t (does_interface now i k at few told none is) old = cc (k, old)
 does-young s order b kind fs t (does_packet now form f k at js one is) old = cc (k, old)
 does-young s order b kind fs t (does_nothing now k at none is) old = cc (k, old)
 
 body-young : (s : Option Section) (order : Order) (b : List ℕ) (kind : BlockKind) (code : CaptureCode) → BodyFault s order b kind code → kind ≢ kinds.OldPacket
 body-young s order b kind code (bad_version k wrong e) old = cc (k, old)
 body-young s order b kind code (too_many now k at many e) old = cc (k, old)
+body-young s order b kind code (bad_options now k at few wrong e) old = cc (k, old)
 body-young s order b kind code (bad_packet now form k at f) old = cc (k, old)
 
 -- ---- where a block is there is no fault
@@ -126,14 +135,17 @@ no-packet-fault order interfaces form b f code is (bad_type i at can wrong e) =
 no-body-fault : (s : Option Section) (order : Order) (b : List ℕ) (kind : BlockKind) (fs : List Frame) (t : Section) (code : CaptureCode) → Does s order b kind fs t → BodyFault s order b kind code → ⊥
 no-body-fault s order b kind fs t code (does_section k v none is) (bad_version k' wrong e) = wrong v
 no-body-fault s order b kind fs t code (does_section k v none is) (too_many now k' at many e) = cc (k, k')
+no-body-fault s order b kind fs t code (does_section k v none is) (bad_options now k' at few wrong e) = cc (k, k')
 no-body-fault s order b kind fs t code (does_section k v none is) (bad_packet now form k' at f) = cc (k, k')
-no-body-fault s order b kind fs t code (does_interface now k at few none is) (bad_version k' wrong e) = cc (k, k')
-no-body-fault s order b kind fs t code (does_interface now k at few none is) (too_many now' k' at' many e) =
+no-body-fault s order b kind fs t code (does_interface now i k at few told none is) (bad_version k' wrong e) = cc (k, k')
+no-body-fault s order b kind fs t code (does_interface now i k at few told none is) (too_many now' k' at' many e) =
     let same : now ≡ now' = cc (at, at') in
     omega (arith, few, many, ap (λ (n : Section). length n.interfaces) same)
-no-body-fault s order b kind fs t code (does_interface now k at few none is) (bad_packet now' form k' at' f) = cc (k, k')
+no-body-fault s order b kind fs t code (does_interface now i k at few told none is) (bad_options now' k' at' few' wrong e) = no-bad order (options_in b) (interface_in order b) i told wrong
+no-body-fault s order b kind fs t code (does_interface now i k at few told none is) (bad_packet now' form k' at' f) = cc (k, k')
 no-body-fault s order b kind fs t code (does_packet now form g k at js one is) (bad_version k' wrong e) = cc (k, k')
 no-body-fault s order b kind fs t code (does_packet now form g k at js one is) (too_many now' k' at' many e) = cc (k, k')
+no-body-fault s order b kind fs t code (does_packet now form g k at js one is) (bad_options now' k' at' few wrong e) = cc (k, k')
 no-body-fault s order b kind fs t code (does_packet now form g k at js one is) (bad_packet now' form' k' at' f) =
     let same : now' ≡ now = cc (at, at') in
     let forms : form' ≡ form = cc (k, k') in
@@ -141,6 +153,7 @@ no-body-fault s order b kind fs t code (does_packet now form g k at js one is) (
     (subst (λ (n : Section). PacketFault order n.interfaces form b code) same (subst (λ (x : PacketForm). PacketFault order now'.interfaces x b code) forms f))
 no-body-fault s order b kind fs t code (does_nothing now k at none is) (bad_version k' wrong e) = cc (k, k')
 no-body-fault s order b kind fs t code (does_nothing now k at none is) (too_many now' k' at' many e) = cc (k, k')
+no-body-fault s order b kind fs t code (does_nothing now k at none is) (bad_options now' k' at' few wrong e) = cc (k, k')
 no-body-fault s order b kind fs t code (does_nothing now k at none is) (bad_packet now' form k' at' f) = cc (k, k')
 
 module _ (s : Option Section) (order : Order) (a rest : List ℕ) (fs : List Frame) (t : Section) (code : CaptureCode) (is : IsBlock (order_of s) order a)
@@ -193,12 +206,23 @@ packet-fault-one order interfaces form b c d (bad_type i at can wrong e) (bad_ty
 body-fault-one : (s : Option Section) (order : Order) (b : List ℕ) (kind : BlockKind) (c d : CaptureCode) → BodyFault s order b kind c → BodyFault s order b kind d → c ≡ d
 body-fault-one s order b kind c d (bad_version k wrong e) (bad_version k' wrong' e') = e ∙ sym e'
 body-fault-one s order b kind c d (bad_version k wrong e) (too_many now k' at many e') = absurd (cc (k, k'))
+body-fault-one s order b kind c d (bad_version k wrong e) (bad_options now k' at few bad e') = absurd (cc (k, k'))
 body-fault-one s order b kind c d (bad_version k wrong e) (bad_packet now form k' at f) = absurd (cc (k, k'))
 body-fault-one s order b kind c d (too_many now k at many e) (bad_version k' wrong e') = absurd (cc (k, k'))
 body-fault-one s order b kind c d (too_many now k at many e) (too_many now' k' at' many' e') = e ∙ sym e'
+body-fault-one s order b kind c d (too_many now k at many e) (bad_options now' k' at' few wrong e') =
+    let same : now ≡ now' = cc (at, at') in
+    absurd (omega (arith, few, many, ap (λ (n : Section). length n.interfaces) same))
+body-fault-one s order b kind c d (bad_options now k at few wrong e) (bad_version k' bad e') = absurd (cc (k, k'))
+body-fault-one s order b kind c d (bad_options now k at few wrong e) (too_many now' k' at' many e') =
+    let same : now ≡ now' = cc (at, at') in
+    absurd (omega (arith, few, many, ap (λ (n : Section). length n.interfaces) same))
+body-fault-one s order b kind c d (bad_options now k at few wrong e) (bad_options now' k' at' few' wrong' e') = e ∙ sym e'
+body-fault-one s order b kind c d (bad_options now k at few wrong e) (bad_packet now' form k' at' f) = absurd (cc (k, k'))
 body-fault-one s order b kind c d (too_many now k at many e) (bad_packet now' form k' at' f) = absurd (cc (k, k'))
 body-fault-one s order b kind c d (bad_packet now form k at f) (bad_version k' wrong e) = absurd (cc (k, k'))
 body-fault-one s order b kind c d (bad_packet now form k at f) (too_many now' k' at' many e) = absurd (cc (k, k'))
+body-fault-one s order b kind c d (bad_packet now form k at f) (bad_options now' k' at' few wrong e) = absurd (cc (k, k'))
 body-fault-one s order b kind c d (bad_packet now form k at f) (bad_packet now' form' k' at' g) =
     let same : now ≡ now' = cc (at, at') in
     let forms : form ≡ form' = cc (k, k') in
@@ -458,7 +482,7 @@ packet-least Enhanced = omega arith
 
 does-long : (s : Option Section) (order : Order) (b : List ℕ) (fs : List Frame) (t : Section) → IsBlock (order_of s) order b → Does s order b (kind_of order b) fs t → 16 * length fs ≤ length b
 does-long s order b fs t is (does_section k v none e) = omega (arith, ap length none)
-does-long s order b fs t is (does_interface now k at few none e) = omega (arith, ap length none)
+does-long s order b fs t is (does_interface now i k at few told none e) = omega (arith, ap length none)
 does-long s order b fs t is (does_packet now form f k at js one e) = omega (arith, ap length one, is.can.least, is.size, ap least_len k, packet-least form)
 does-long s order b fs t is (does_nothing now k at none e) = omega (arith, ap length none)
 

@@ -1,5 +1,5 @@
 -- Where a reader stands after a step.
-use Rattle.std.proofs.Common.{◌≡◌, ◌+◌, ◌⊎◌, ◌<◌, ◌∙◌, ℕ, Bool, true, false, is_some, List, [], ◌∷◌, ◌++◌, Result, Ok, Err, Option, Some, None, length, take, drop, ap, sym, refl, inl, inr, subst, arith, append_assoc, append-nil}
+use Rattle.std.proofs.Common.{◌≡◌, ◌+◌, ◌⊎◌, ◌<◌, ◌∙◌, ℕ, Bool, true, false, is_some, List, [], ◌∷◌, ◌++◌, Result, Ok, Err, Option, Some, None, length, take, ap, sym, refl, inl, inr, subst, arith, append_assoc, append-nil}
 use Rattle.std.proofs.lemmas.Bool.{false≢true}
 use Rattle.std.proofs.lemmas.List.{length-append, length-take}
 use Rattle.rip_capture.specs.Captures.{CaptureFault, FrontFault, HasNoMore, IsRead}
@@ -13,7 +13,7 @@ use Rattle.rip_capture.specs.Finds.{FindsHeader, FindsRecord, IsFound}
 use Rattle.rip_log.proofs.WholeLemmas.{went_on}
 use Rattle.rip_log.specs.Wholes.{Went}
 use Rattle.rip_capture.specs.NextCall.{EndsHere, HasRead, HoldsPacket, IsFar, IsOver, Runs, Stands, StopsAt, TakesPacket, held_by, section_by, source_of}
-use Rattle.rip_capture.specs.Pcap.{Frame, HoldsRecord, IsPcap, RecordFault}
+use Rattle.rip_capture.specs.Pcap.{Frame, HoldsRecord, IsPcap, RecordFault, frame_in}
 use Rattle.rip_capture.specs.Pcapng.{Section}
 use Rattle.rip_capture.specs.Steps.{Begins, StandsAt, TakesBlock, frame_at, place_at}
 use Rattle.rip_capture.proofs.FileLemmas.{front-most, record-most, record-next}
@@ -32,7 +32,7 @@ use Rattle.rip_capture.specs.declared.reader.Format.TheVariants.{Pcap, Pcapng}
 
 pub read-capture : (f : Option Format) (now : Section) (taken : List ℕ) (frames : List Frame) → HasRead f now taken frames → IsRead taken frames
 read-capture None now taken frames h = nothing_read h.0 h.1
-read-capture (Some (Pcap h)) now taken frames is = capture_read (pcap_capture h.order h.link_type is)
+read-capture (Some (Pcap h)) now taken frames is = capture_read (pcap_capture h.order h.framing is)
 read-capture (Some Pcapng) now taken frames are = capture_read (pcapng_capture now are)
 
 -- where nothing was taken
@@ -54,20 +54,20 @@ more-taken given before taken more old mid new keeps takes gave =
 pub TakesPacket-found : {R : Type 0} (given : R → List ℕ) (before taken : List ℕ) (frames : List Frame) (frame : Frame) (old new : CaptureReader R) (mid : Feed R) (h : PcapHeader) (n : ℕ)
     (at_end : Bool)
     → old.format ≡ Some (Pcap h) → new.format ≡ Some (Pcap h) → Keeps given old.parts.feed mid → FindsRecord h.order (held mid) at_end (Ok (Some n)) → Takes given mid new.parts.feed (take (16 + n) (held mid))
-    → new.position ≡ old.position + (16 + n) → frame ≡ record { link_type = h.link_type; bytes = drop 16 (take (16 + n) (held mid)) }
+    → new.position ≡ old.position + (16 + n) → frame ≡ frame_in h.order h.framing (take (16 + n) (held mid))
     → Stands given before old taken frames → TakesPacket given before frames frame old.position new
 TakesPacket-found given before taken frames frame old new mid h n at_end was is keeps finds takes position frame_is s =
     let more = take (16 + n) (held mid) in
-    let right : IsPcap taken h.order h.link_type frames = subst (λ (f : Option Format). HasRead f (section_by old) taken frames) was s.read in
-    let one = subst (λ (f : Frame). IsPcap (taken ++ more) h.order h.link_type (frames ++ f ∷ [])) (sym frame_is)
-    (IsPcap-snoc h.order h.link_type taken more (record { link_type = h.link_type; bytes = drop 16 more }) frames right (record-of h.order h.link_type (held mid) n finds.0 finds.1 finds.2)) in
+    let right : IsPcap taken h.order h.framing frames = subst (λ (f : Option Format). HasRead f (section_by old) taken frames) was s.read in
+    let one = subst (λ (f : Frame). IsPcap (taken ++ more) h.order h.framing (frames ++ f ∷ [])) (sym frame_is)
+    (IsPcap-snoc h.order h.framing taken more (frame_in h.order h.framing more) frames right (record-of h.order h.framing (held mid) n finds.0 finds.1 finds.2)) in
     record {
       front = taken;
       bytes = more;
-      right = pcap_capture h.order h.link_type right;
+      right = pcap_capture h.order h.framing right;
       place_is = s.position;
-      longer = pcap_capture h.order h.link_type one;
-      next = record-next h.order h.link_type taken more frames right;
+      longer = pcap_capture h.order h.framing one;
+      next = record-next h.order h.framing taken more frames right;
       stands = record {
         gave = more-taken given before taken more old.parts.feed mid new.parts.feed keeps takes s.gave;
         position = omega (arith, position, s.position, length-append taken more, length-take (16 + n) (held mid), finds.0);
@@ -82,17 +82,17 @@ pub EndsHere-found : {R : Type 0} (given : R → List ℕ) (at_end : R → Bool)
     → Stands given before old taken frames → EndsHere given at_end before frames new
 EndsHere-found given at_end before taken frames old new h was keeps position format section finds s = record {
   file = taken;
-  right = pcap_capture h.order h.link_type (subst (λ (f : Option Format). HasRead f (section_by old) taken frames) was s.read);
+  right = pcap_capture h.order h.framing (subst (λ (f : Option Format). HasRead f (section_by old) taken frames) was s.read);
   all = finds.0;
   ended = finds.1;
   stands = Stands-kept given before taken frames old new keeps position format section s;
 }
 
 -- a fault that is told of a record, of the whole file
-record-fault : (h : PcapHeader) (taken rest : List ℕ) (frames : List Frame) (code : CaptureCode) (at : ℕ) (at_end : Bool) → at ≡ length taken → IsPcap taken h.order h.link_type frames →
+record-fault : (h : PcapHeader) (taken rest : List ℕ) (frames : List Frame) (code : CaptureCode) (at : ℕ) (at_end : Bool) → at ≡ length taken → IsPcap taken h.order h.framing frames →
     (code ≡ Read) ⊎ (RecordFault h.order rest code × EndsFor code at_end) → is_read code ≡ false → CaptureFault (taken ++ rest) frames code at
 record-fault h taken rest frames code at at_end place right (inl e) calm = absurd (false≢true (sym calm ∙ ap is_read e))
-record-fault h taken rest frames code at at_end place right (inr f) calm = in_pcap h.order h.link_type taken rest refl right place f.0
+record-fault h taken rest frames code at at_end place right (inr f) calm = in_pcap h.order h.framing taken rest refl right place f.0
 
 -- and of the front
 front-fault : (taken rest : List ℕ) (frames : List Frame) (code : CaptureCode) (at_end : Bool) → taken ≡ [] → frames ≡ [] → (code ≡ Read) ⊎ (FrontFault rest code × EndsFor code at_end) →
@@ -112,16 +112,16 @@ pub StopsAt-record : {R : Type 0} (given : R → List ℕ) (at_end : R → Bool)
     → (is_read code ≡ true → ¬ HoldsRecord h.order (held new.parts.feed))
     → Stands given before old taken frames → StopsAt given at_end before frames (record { code = code; at = old.position }) new
 StopsAt-record given at_end before taken frames old new h code was keeps position finds short s =
-    let right : IsPcap taken h.order h.link_type frames = subst (λ (f : Option Format). HasRead f (section_by old) taken frames) was s.read in
+    let right : IsPcap taken h.order h.framing frames = subst (λ (f : Option Format). HasRead f (section_by old) taken frames) was s.read in
     record {
       front = taken;
       rest = held new.parts.feed;
       gave = keeps (before ++ taken) s.gave;
-      read = capture_read (pcap_capture h.order h.link_type right);
+      read = capture_read (pcap_capture h.order h.framing right);
       place = s.position;
       position = position ∙ s.position;
       fault = record-fault h taken (held new.parts.feed) frames code old.position (at_end new.parts.feed.source) s.position right finds;
-      all = λ failed. inl (record-most h.order h.link_type taken (held new.parts.feed) frames right (short failed));
+      all = λ failed. inl (record-most h.order h.framing taken (held new.parts.feed) frames right (short failed));
       ended = fault-ends code (at_end new.parts.feed.source) finds;
     }
 
@@ -133,7 +133,7 @@ StopsAt-far given at_end before taken frames old new h was keeps position far s 
   front = taken;
   rest = held new.parts.feed;
   gave = keeps (before ++ taken) s.gave;
-  read = capture_read (pcap_capture h.order h.link_type (subst (λ (f : Option Format). HasRead f (section_by old) taken frames) was s.read));
+  read = capture_read (pcap_capture h.order h.framing (subst (λ (f : Option Format). HasRead f (section_by old) taken frames) was s.read));
   place = s.position;
   position = position ∙ s.position;
   fault = λ calm. cc calm;
@@ -168,9 +168,9 @@ Stands-begun given before taken frames old new mid h at_end was is keeps finds t
     let more = take 24 (held mid) in
     let none : HasRead None (section_by old) taken frames = subst (λ (f : Option Format). HasRead f (section_by old) taken frames) was s.read in
     let alone : more ≡ taken ++ more = ap (λ (l : List ℕ). l ++ more) (sym none.0) in
-    let header = IsPcap-none h.order h.link_type more finds.1 in
-    let whole : IsPcap (taken ++ more) h.order h.link_type frames =
-    subst (λ (l : List ℕ). IsPcap l h.order h.link_type frames) alone (subst (λ (l : List Frame). IsPcap more h.order h.link_type l) (sym none.1) header) in
+    let header = IsPcap-none h.order h.framing more finds.1 in
+    let whole : IsPcap (taken ++ more) h.order h.framing frames =
+    subst (λ (l : List ℕ). IsPcap l h.order h.framing frames) alone (subst (λ (l : List Frame). IsPcap more h.order h.framing l) (sym none.1) header) in
     record {
       gave = more-taken given before taken more old.parts.feed mid new.parts.feed keeps takes s.gave;
       position = position ∙ sym finds.1.size ∙ ap length alone;

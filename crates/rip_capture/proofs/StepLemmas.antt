@@ -29,13 +29,13 @@ use Rattle.rip_capture.proofs.PcapngLemmas.{block-least, blocks-snoc, blocks-sta
 use Rattle.rip_capture.specs.declared.blocks.Block.{Block}
 use Rattle.rip_capture.specs.declared.blocks.BlockKind.{BlockKind}
 use Rattle.rip_capture.specs.declared.blocks.BlockKind.TheVariants as kinds
-use Rattle.rip_capture.specs.declared.blocks.Interface.{Interface}
+use Rattle.rip_capture.specs.declared.interface.Interface.{Interface}
 use Rattle.rip_capture.specs.declared.bodies.Body.{Body}
 use Rattle.rip_capture.specs.declared.bodies.Body.TheVariants as says
 use Rattle.rip_capture.specs.declared.error.CaptureCode.{CaptureCode}
 use Rattle.rip_capture.specs.declared.error.CaptureCode.TheVariants.{Cut, Read}
 use Rattle.rip_capture.specs.declared.error.CaptureError.{CaptureError}
-use Rattle.rip_capture.specs.declared.link.LinkType.{LinkType}
+use Rattle.rip_capture.specs.declared.bodies.PacketBody.{PacketBody}
 use Rattle.rip_capture.specs.declared.numbers.Order.{Order}
 use Rattle.rip_capture.specs.declared.reader.CaptureReader.{CaptureReader}
 use Rattle.rip_capture.specs.declared.reader.Step.{Step}
@@ -82,7 +82,7 @@ module _ {R : Type 0} (given : R → List ℕ) (before taken passed : List ℕ) 
       ReadsBody block.order interfaces block.kind first (Ok body)
   reads-here interfaces says.Section reads = same-body interfaces says.Section (ap is_read_whole reads.0) reads
   reads-here interfaces (says.Interface i) reads = same-body interfaces (says.Interface i) (ap is_read_whole reads.0) reads
-  reads-here interfaces (says.Packet t span) reads = same-body interfaces (says.Packet t span) (ap is_read_whole reads.1) reads
+  reads-here interfaces (says.Packet p) reads = same-body interfaces (says.Packet p) (ap is_read_whole reads.1) reads
   reads-here interfaces says.Other reads = reads
 
   -- a fault of its body is one of the next block
@@ -103,16 +103,17 @@ module _ {R : Type 0} (given : R → List ℕ) (before taken passed : List ℕ) 
   -- where it was taken
   pub took : (new : CaptureReader R) (body : Body) (step : Step) → Takes given old.parts.feed new.parts.feed (take block.held (held_by old)) → new.position ≡ old.position + block.len →
       section_by new ≡ entered (section_by old) block.order body
-      → frames_of new step ≡ frames-in first body → BringsAt (length taken) step → ReadsBody block.order (section_by old).interfaces block.kind (take block.held (held_by old)) (Ok body)
+      → frames_of new step ≡ frames-in (section_by old).interfaces first body → BringsAt (length taken) step → ReadsBody block.order (section_by old).interfaces block.kind (take block.held (held_by old)) (Ok body)
       → TakesBlock given before taken frames new step
   took new body step takes position section framed brings reads =
       let order = block.order in
       let parted = take block.held (held_by old) in
       let here = reads-here (section_by old).interfaces body reads in
       let does = does-of s (section_by old) order first block.kind body st.found.young only st.stands here in
-      let goes : Does s order first (kind_of order first) (frames-in first body) (entered (section_by old) order body) =
-      subst (λ (k : BlockKind). Does s order first k (frames-in first body) (entered (section_by old) order body)) st.found.kind does in
-      let read = blocks-snoc None s taken first frames (frames-in first body) order (entered (section_by old) order body) st.read st.found.is_block goes in
+      let mine = frames-in (section_by old).interfaces first body in
+      let goes : Does s order first (kind_of order first) mine (entered (section_by old) order body) =
+      subst (λ (k : BlockKind). Does s order first k mine (entered (section_by old) order body)) st.found.kind does in
+      let read = blocks-snoc None s taken first frames mine order (entered (section_by old) order body) st.read st.found.is_block goes in
       let placed : given (source_of new) ≡ (before ++ taken ++ passed ++ parted) ++ held_by new =
       takes (before ++ taken ++ passed) (st.gave ∙ sym (append_assoc (before ++ taken) passed (held_by old))) in
       record {
@@ -132,26 +133,27 @@ module _ {R : Type 0} (given : R → List ℕ) (before taken passed : List ℕ) 
   first-kind none = only none
 
   -- the packet that lies in it, as it lies in the buffer
-  pub packet-framed : (items : List ℕ) (at : Span) (t : LinkType) (span : Span) (interfaces : List Interface) → slice_of items at ≡ take block.held (held_by old) → at.to ≡ at.from + block.held →
-      ReadsBody block.order interfaces block.kind (take block.held (held_by old)) (Ok (says.Packet t span))
-      → slice_range items (at.from + span.from) (at.from + span.to) ≡ slice_range first span.from span.to
-  packet-framed items at t span interfaces lies size reads =
+  pub packet-framed : (items : List ℕ) (at : Span) (p : PacketBody) (interfaces : List Interface) → slice_of items at ≡ take block.held (held_by old) → at.to ≡ at.from + block.held →
+      ReadsBody block.order interfaces block.kind (take block.held (held_by old)) (Ok (says.Packet p))
+      → slice_range items (at.from + p.bytes.from) (at.from + p.bytes.to) ≡ slice_range first p.bytes.from p.bytes.to
+  packet-framed items at p interfaces lies size reads =
       let whole = all-held (ap is_read_whole reads.1) in
       let held = length-take block.held (held_by old) in
-      let is : LiesAt block.order interfaces reads.0 (take block.held (held_by old)) t span = reads.2 in
-      range-range items at.from at.to span.from span.to (omega (arith, is.from, is.to)) (omega (arith, is.to, is.can.inside, held, size, st.found.held))
-      ∙ ap (λ (l : List ℕ). slice_range l span.from span.to) (lies ∙ whole)
+      let is : LiesAt block.order interfaces reads.0 (take block.held (held_by old)) p = reads.2 in
+      range-range items at.from at.to p.bytes.from p.bytes.to (omega (arith, is.from, is.to)) (omega (arith, is.to, is.can.inside, held, size, st.found.held))
+      ∙ ap (λ (l : List ℕ). slice_range l p.bytes.from p.bytes.to) (lies ∙ whole)
 
 -- the bodies that bring no packet
-pub frames-none : (b : List ℕ) (body : Body) → (body ≡ says.Section) ⊎ (((i : Interface) × (body ≡ says.Interface i)) ⊎ (body ≡ says.Other)) → frames-in b body ≡ []
-frames-none b body (inl e) = ap (frames-in b) e
-frames-none b body (inr (inl h)) = ap (frames-in b) h.1
-frames-none b body (inr (inr e)) = ap (frames-in b) e
+pub frames-none : (interfaces : List Interface) (b : List ℕ) (body : Body) → (body ≡ says.Section) ⊎ (((i : Interface) × (body ≡ says.Interface i)) ⊎ (body ≡ says.Other)) →
+    frames-in interfaces b body ≡ []
+frames-none interfaces b body (inl e) = ap (frames-in interfaces b) e
+frames-none interfaces b body (inr (inl h)) = ap (frames-in interfaces b) h.1
+frames-none interfaces b body (inr (inr e)) = ap (frames-in interfaces b) e
 
-pub no-packet : (body : Body) (t : LinkType) (span : Span) → (body ≡ says.Section) ⊎ (((i : Interface) × (body ≡ says.Interface i)) ⊎ (body ≡ says.Other)) → body ≡ says.Packet t span → ⊥
-no-packet body t span (inl e) is = cc (e, is)
-no-packet body t span (inr (inl h)) is = cc (h.1, is)
-no-packet body t span (inr (inr e)) is = cc (e, is)
+pub no-packet : (body : Body) (p : PacketBody) → (body ≡ says.Section) ⊎ (((i : Interface) × (body ≡ says.Interface i)) ⊎ (body ≡ says.Other)) → body ≡ says.Packet p → ⊥
+no-packet body p (inl e) is = cc (e, is)
+no-packet body p (inr (inl h)) is = cc (h.1, is)
+no-packet body p (inr (inr e)) is = cc (e, is)
 
 -- ---- where a reader stops
 

@@ -2,20 +2,20 @@
 use Rattle.std.specs.Prelude.{◌≡◌, ◌⊎◌, ◌<◌, ◌+◌, ◌++◌, ℕ, List, [], ◌∷◌, length, Some, None, Result, Ok, Err}
 use Rattle.std.specs.List.{slice_get}
 use Rattle.rip_capture.specs.LinkTypes.{IsNoType, number_of}
-use Rattle.rip_capture.specs.Pcapng.{BodyFault, HasPacketLength, IsSectionVersion, Section, interface_in, interface_of, packet_from, packet_len}
+use Rattle.rip_capture.specs.Options.{Describes}
+use Rattle.rip_capture.specs.Pcapng.{BodyFault, HasPacketLength, IsSectionVersion, Section, interface_in, interface_of, options_in, packet_from, packet_len, packet_time}
 use Rattle.rip_capture.specs.declared.blocks.BlockKind.{BlockKind}
 use Rattle.rip_capture.specs.declared.blocks.BlockKind.TheVariants as kinds
-use Rattle.rip_capture.specs.declared.blocks.Interface.{Interface}
+use Rattle.rip_capture.specs.declared.interface.Interface.{Interface}
 use Rattle.rip_capture.specs.declared.blocks.PacketForm.{PacketForm}
 use Rattle.rip_capture.specs.declared.bodies.Body.{Body}
 use Rattle.rip_capture.specs.declared.bodies.Body.TheVariants as says
 use Rattle.rip_capture.specs.declared.bodies.OpenSection.{OpenSection}
+use Rattle.rip_capture.specs.declared.bodies.PacketBody.{PacketBody}
 use Rattle.rip_capture.specs.declared.error.CaptureCode.{CaptureCode}
 use Rattle.rip_capture.specs.declared.error.CaptureCode.TheVariants as codes
 use Rattle.rip_capture.specs.declared.limits.TheConstants.{MOST_INTERFACES}
-use Rattle.rip_capture.specs.declared.link.LinkType.{LinkType}
 use Rattle.rip_capture.specs.declared.numbers.Order.{Order}
-use Rattle.rip_log.specs.declared.span.Span.{Span}
 
 -- what an open section is
 abbrev pub section_of : OpenSection → Section
@@ -27,21 +27,23 @@ entered s order says.Section = record { order = order; interfaces = [] }
 entered s order (says.Interface i) = record { order = s.order; interfaces = s.interfaces ++ i ∷ [] }
 entered s order _ = s
 
--- the packet in a block lies there, and is of this link type
+-- what the block of a packet says: its link type, where it lies, its interface and its time
 pub record LiesAt (order : Order) (interfaces : List Interface) (form : PacketForm) (b : List ℕ)
-    (link_type : LinkType) (span : Span) : Type 0 where
+    (packet : PacketBody) : Type 0 where
   pub interface : Interface
   pub described : slice_get interfaces (interface_of order form b) ≡ Some interface
   pub can : HasPacketLength order form b interface
-  pub link : number_of link_type ≡ interface.link_number
-  pub from : span.from ≡ packet_from form
-  pub to : span.to ≡ packet_from form + packet_len order form b interface
+  pub link : number_of packet.link_type ≡ interface.link_number
+  pub from : packet.bytes.from ≡ packet_from form
+  pub to : packet.bytes.to ≡ packet_from form + packet_len order form b interface
+  pub number : packet.interface ≡ interface_of order form b
+  pub time : packet.time ≡ packet_time order form b interface
 
 -- what the block of a packet says
 abbrev pub ReadsPacket :
-    Order → List Interface → PacketForm → List ℕ → Result (LinkType × Span) CaptureCode → Type 0
+    Order → List Interface → PacketForm → List ℕ → Result PacketBody CaptureCode → Type 0
 ReadsPacket order interfaces form b (Ok packet) =
-    LiesAt order interfaces form b packet.0 packet.1
+    LiesAt order interfaces form b packet
 ReadsPacket order interfaces form b (Err codes.Interface) =
     slice_get interfaces (interface_of order form b) ≡ None
 ReadsPacket order interfaces form b (Err codes.Length) =
@@ -58,10 +60,10 @@ abbrev pub ReadsBody :
 ReadsBody order interfaces kind b (Ok says.Section) =
     (kind ≡ kinds.Section) × IsSectionVersion order b
 ReadsBody order interfaces kind b (Ok (says.Interface i)) =
-    (kind ≡ kinds.Interface) × (i ≡ interface_in order b) × (length interfaces < MOST_INTERFACES)
-ReadsBody order interfaces kind b (Ok (says.Packet link_type span)) =
-    (form : PacketForm) × (kind ≡ kinds.Packet form)
-    × LiesAt order interfaces form b link_type span
+    (kind ≡ kinds.Interface) × Describes order (options_in b) (interface_in order b) i
+    × (length interfaces < MOST_INTERFACES)
+ReadsBody order interfaces kind b (Ok (says.Packet packet)) =
+    (form : PacketForm) × (kind ≡ kinds.Packet form) × LiesAt order interfaces form b packet
 ReadsBody order interfaces kind b (Ok says.Other) =
     (kind ≡ kinds.Other) ⊎ (kind ≡ kinds.OldPacket)
 ReadsBody order interfaces kind b (Err code) =

@@ -5,8 +5,8 @@ use Rattle.rip_capture.specs.Pcapng.{AreBlocks, BlockFault, Section, begins_sect
 use Rattle.rip_capture.specs.declared.error.CaptureCode.{CaptureCode}
 use Rattle.rip_capture.specs.declared.error.CaptureCode.TheVariants.{Cut, Magic}
 use Rattle.rip_capture.specs.declared.limits.TheConstants.{MAGIC_LEN}
-use Rattle.rip_capture.specs.declared.link.LinkType.{LinkType}
 use Rattle.rip_capture.specs.declared.numbers.Order.{Order}
+use Rattle.rip_capture.specs.declared.pcap.Framing.{Framing}
 
 -- a file begins as one of a kind that is read
 pub data HasMagic (b : List ℕ) : Type 0 where
@@ -15,7 +15,7 @@ pub data HasMagic (b : List ℕ) : Type 0 where
 
 -- these bytes are a capture, up to here, with these frames
 pub data IsCapture (b : List ℕ) (frames : List Frame) : Type 0 where
-  pcap : (order : Order) (link_type : LinkType) → IsPcap b order link_type frames →
+  pcap : (order : Order) (framing : Framing) → IsPcap b order framing frames →
       IsCapture b frames
   pcapng : (now : Section) → AreBlocks None b frames (Some now) → IsCapture b frames
 
@@ -48,8 +48,8 @@ pub data FrontFault (b : List ℕ) (code : CaptureCode) : Type 0 where
 pub data CaptureFault (b : List ℕ) (frames : List Frame) (code : CaptureCode) (at : ℕ)
     : Type 0 where
   front : frames ≡ [] → at ≡ 0 → FrontFault b code → CaptureFault b frames code at
-  pcap : (order : Order) (link_type : LinkType) (right rest : List ℕ) → b ≡ right ++ rest →
-      IsPcap right order link_type frames → at ≡ length right → RecordFault order rest code →
+  pcap : (order : Order) (framing : Framing) (right rest : List ℕ) → b ≡ right ++ rest →
+      IsPcap right order framing frames → at ≡ length right → RecordFault order rest code →
       CaptureFault b frames code at
   pcapng : (s : Option Section) (right rest : List ℕ) → MAGIC_LEN ≤ length b →
       begins_section b ≡ true →

@@ -3,7 +3,7 @@ use Rattle.std.specs.Prelude.{◌≡◌, ◌≢◌, ◌⊎◌, ◌<◌, ◌≤�
 use Rattle.rip_capture.specs.Captures.{FrontFault}
 use Rattle.rip_capture.specs.Codes.{EndsFor}
 use Rattle.rip_capture.specs.LinkTypes.{IsNoType, number_of}
-use Rattle.rip_capture.specs.Pcap.{IsMagic, IsPcapHeader, IsVersion, RecordFault, captured_len, link_number}
+use Rattle.rip_capture.specs.Pcap.{IsMagic, IsPcapHeader, IsVersion, RecordFault, captured_len, link_number, resolution_in}
 use Rattle.rip_capture.specs.Pcapng.{BlockFault, HasLength, HasOrder, IsBlock, Section, begins_section, block_len, front_len, is_read_whole, kind_of, order_of}
 use Rattle.rip_capture.specs.declared.blocks.Block.{Block}
 use Rattle.rip_capture.specs.declared.blocks.BlockKind.{BlockKind}
@@ -30,7 +30,8 @@ FindsMagic b at_end (Err code) = (code ≡ Read) ⊎ (FrontFault b code × EndsF
 -- what a header of this order says behind its first four bytes
 abbrev pub ReadsHeader : Order → List ℕ → Result PcapHeader CaptureCode → Type 0
 ReadsHeader order b (Ok h) =
-    (h.order ≡ order) × IsVersion order b × (number_of h.link_type ≡ link_number order b)
+    (h.order ≡ order) × IsVersion order b × (number_of h.framing.link_type ≡ link_number order b)
+    × (h.framing.resolution ≡ resolution_in order b)
 ReadsHeader order b (Err Version) = ¬ IsVersion order b
 ReadsHeader order b (Err NoLinkType) = IsVersion order b × IsNoType (link_number order b)
 ReadsHeader order b (Err other) = ⊥
@@ -38,7 +39,7 @@ ReadsHeader order b (Err other) = ⊥
 -- the header at the front of a file, where at_end says that no bytes come after these
 abbrev pub FindsHeader : List ℕ → Bool → Result PcapHeader CaptureCode → Type 0
 FindsHeader b at_end (Ok h) =
-    (FILE_HEADER ≤ length b) × IsPcapHeader (take FILE_HEADER b) h.order h.link_type
+    (FILE_HEADER ≤ length b) × IsPcapHeader (take FILE_HEADER b) h.order h.framing
 FindsHeader b at_end (Err code) = (code ≡ Read) ⊎ (FrontFault b code × EndsFor code at_end)
 
 -- the next record, of a packet of so many bytes, where at_end says that no bytes come after these

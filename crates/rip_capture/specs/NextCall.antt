@@ -6,6 +6,7 @@ use Rattle.rip_capture.specs.Captures.{CaptureFault, HasNoMore, IsCapture, IsNex
 use Rattle.rip_capture.specs.Codes.{EndsFor, is_read}
 use Rattle.rip_log.specs.Feeds.{held}
 use Rattle.rip_capture.specs.Finds.{HoldsPacketBlock}
+use Rattle.rip_capture.specs.Interfaces.{came_of}
 use Rattle.rip_capture.specs.Pcap.{Frame, HoldsRecord, IsPcap}
 use Rattle.rip_capture.specs.Pcapng.{AreBlocks, Section}
 use Rattle.rip_capture.specs.declared.error.CaptureError.{CaptureError}
@@ -32,7 +33,12 @@ refusal_of reader = reader.refusal
 
 -- what a packet is in its file
 abbrev pub frame_of : Packet → Frame
-frame_of p = record { link_type = p.link_type; bytes = p.bytes.now }
+frame_of p = record {
+  link_type = p.link_type;
+  bytes = p.bytes.now;
+  interface = came_of p.interface;
+  time = p.time;
+}
 
 -- the offset of its record or block
 abbrev pub place_of : Packet → ℕ
@@ -46,7 +52,7 @@ section_by reader = section_of reader.section
 -- section
 abbrev pub HasRead : Option Format → Section → List ℕ → List Frame → Type 0
 HasRead None now taken frames = (taken ≡ []) × (frames ≡ [])
-HasRead (Some (Pcap h)) now taken frames = IsPcap taken h.order h.link_type frames
+HasRead (Some (Pcap h)) now taken frames = IsPcap taken h.order h.framing frames
 HasRead (Some Pcapng) now taken frames = AreBlocks None taken frames (Some now)
 
 -- a reader stands behind these bytes of its file, which have these frames; before is what the

@@ -13,3 +13,8 @@ short_in Little k b = little_number 2 (drop k b)
 abbrev pub number_in : Order → ℕ → List ℕ → ℕ
 number_in Big k b = big_number 4 (drop k b)
 number_in Little k b = little_number 4 (drop k b)
+
+-- the number in the eight bytes from offset k on
+abbrev pub long_in : Order → ℕ → List ℕ → ℕ
+long_in Big k b = big_number 8 (drop k b)
+long_in Little k b = little_number 8 (drop k b)

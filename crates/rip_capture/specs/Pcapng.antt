@@ -1,20 +1,23 @@
 -- The blocks of a pcapng file (draft-ietf-opsawg-pcapng, sections 3 and 4).
-use Rattle.std.specs.Prelude.{◌≡◌, ◌≢◌, ◌⊎◌, ◌<◌, ◌≤◌, ◌+◌, ◌-◌, ◌%◌, ◌++◌, ◌==◌, if◌then◌else◌, ℕ, Bool, true, false, List, [], ◌∷◌, length, min, Option, Some, None, slice_range}
+use Rattle.std.specs.Prelude.{◌≡◌, ◌≢◌, ◌⊎◌, ◌<◌, ◌≤◌, ◌+◌, ◌*◌, ◌-◌, ◌^◌, ◌%◌, ◌++◌, ◌==◌, if◌then◌else◌, ℕ, Bool, true, false, List, [], ◌∷◌, length, min, Option, Some, None, slice_range}
 use Rattle.std.specs.List.{slice_get}
 use Rattle.rip_wire.specs.Fields.{number_at}
+use Rattle.rip_capture.specs.Interfaces.{came_by}
 use Rattle.rip_capture.specs.LinkTypes.{IsNoType, number_of}
 use Rattle.rip_capture.specs.Numbers.{number_in, short_in}
+use Rattle.rip_capture.specs.Options.{Describes, HasBadOption, name_of}
 use Rattle.rip_capture.specs.Pcap.{Frame}
 use Rattle.rip_capture.specs.declared.blocks.BlockKind.{BlockKind}
 use Rattle.rip_capture.specs.declared.blocks.BlockKind.TheVariants as kinds
 use Rattle.rip_capture.specs.declared.blocks.PacketForm.{PacketForm}
 use Rattle.rip_capture.specs.declared.blocks.PacketForm.TheVariants.{Simple, Enhanced}
-use Rattle.rip_capture.specs.declared.blocks.Interface.{Interface}
+use Rattle.rip_capture.specs.declared.interface.Interface.{Interface}
 use Rattle.rip_capture.specs.declared.error.CaptureCode.{CaptureCode}
 use Rattle.rip_capture.specs.declared.error.CaptureCode.TheVariants as codes
-use Rattle.rip_capture.specs.declared.limits.TheConstants.{BLOCK_FRONT, MOST_BLOCK, MOST_CAPTURED, MOST_INTERFACES, SECTION, SECTION_FRONT}
+use Rattle.rip_capture.specs.declared.limits.TheConstants.{BLOCK_FRONT, MILLIONTHS, MOST_BLOCK, MOST_CAPTURED, MOST_INTERFACES, SECTION, SECTION_FRONT}
 use Rattle.rip_capture.specs.declared.numbers.Order.{Order}
 use Rattle.rip_capture.specs.declared.numbers.Order.TheVariants.{Big, Little}
+use Rattle.rip_capture.specs.declared.time.Time.{Time}
 
 -- what blocks stand in: a section's byte order, and the interfaces that it has described so far
 pub record Section : Type 0 where
@@ -96,10 +99,20 @@ pub record IsSectionVersion (order : Order) (b : List ℕ) : Type 0 where
   pub major : short_in order 12 b ≡ 1
   pub minor : (short_in order 14 b ≡ 0) ⊎ (short_in order 14 b ≡ 2)
 
--- the interface that a block describes: the number of its link type, and the most bytes of a packet
--- that it captures, where that is not 0
+-- the interface that a block describes, without its options: the number of its link type, and the
+-- most bytes of a packet that it captures, where that is not 0; no name, and millionths of a second
 abbrev pub interface_in : Order → List ℕ → Interface
-interface_in order b = record { link_number = short_in order 8 b; most = number_in order 12 b }
+interface_in order b = record {
+  link_number = short_in order 8 b;
+  most = number_in order 12 b;
+  name = name_of [];
+  resolution = MILLIONTHS;
+  offset = 0;
+}
+
+-- where the options of an interface stand in its block
+abbrev pub options_in : List ℕ → List ℕ
+options_in b = slice_range b 16 (length b - 4)
 
 -- the number of a packet's interface; that of a simple packet is the first
 abbrev pub interface_of : Order → PacketForm → List ℕ → ℕ
@@ -121,6 +134,15 @@ abbrev pub packet_len : Order → PacketForm → List ℕ → Interface → ℕ
 packet_len order Enhanced b i = number_in order 20 b
 packet_len order Simple b i = simple_len (number_in order 8 b) (length b - 16) i.most
 
+-- the time of a packet: its high half is first in either byte order; a simple packet has none
+abbrev pub packet_time : Order → PacketForm → List ℕ → Interface → Option Time
+packet_time order Enhanced b i = Some (record {
+  ticks = number_in order 12 b * 2 ^ 32 + number_in order 16 b;
+  resolution = i.resolution;
+  offset = i.offset;
+})
+packet_time order Simple b i = None
+
 -- the bytes of a packet can be so many, and lie in the block
 pub record HasPacketLength (order : Order) (form : PacketForm) (b : List ℕ) (i : Interface)
     : Type 0 where
@@ -136,6 +158,8 @@ pub record IsPacket (order : Order) (interfaces : List Interface) (form : Packet
   pub link : number_of frame.link_type ≡ interface.link_number
   pub bytes : frame.bytes
       ≡ slice_range b (packet_from form) (packet_from form + packet_len order form b interface)
+  pub came : frame.interface ≡ came_by interfaces (interface_of order form b)
+  pub time : frame.time ≡ packet_time order form b interface
 
 -- what a whole block of a kind does in a section: which packets it has, and in what blocks then
 -- stand
@@ -143,10 +167,9 @@ pub data Does (s : Option Section) (order : Order) (b : List ℕ) (kind : BlockK
     (frames : List Frame) (next : Section) : Type 0 where
   section : kind ≡ kinds.Section → IsSectionVersion order b → frames ≡ [] →
       next ≡ record { order = order; interfaces = [] } → Does s order b kind frames next
-  interface : (now : Section) → kind ≡ kinds.Interface → s ≡ Some now →
-      length now.interfaces < MOST_INTERFACES → frames ≡ [] →
-      next
-      ≡ record { order = now.order; interfaces = now.interfaces ++ interface_in order b ∷ [] } →
+  interface : (now : Section) (i : Interface) → kind ≡ kinds.Interface → s ≡ Some now →
+      length now.interfaces < MOST_INTERFACES → Describes order (options_in b) (interface_in order b) i →
+      frames ≡ [] → next ≡ record { order = now.order; interfaces = now.interfaces ++ i ∷ [] } →
       Does s order b kind frames next
   packet : (now : Section) (form : PacketForm) (frame : Frame) → kind ≡ kinds.Packet form →
       s ≡ Some now → IsPacket order now.interfaces form b frame → frames ≡ frame ∷ [] → next ≡ now →
@@ -191,6 +214,9 @@ pub data BodyFault (s : Option Section) (order : Order) (b : List ℕ) (kind : B
   full : (now : Section) → kind ≡ kinds.Interface → s ≡ Some now →
       MOST_INTERFACES ≤ length now.interfaces → code ≡ codes.Interface →
       BodyFault s order b kind code
+  options : (now : Section) → kind ≡ kinds.Interface → s ≡ Some now →
+      length now.interfaces < MOST_INTERFACES → HasBadOption order (options_in b) →
+      code ≡ codes.Length → BodyFault s order b kind code
   packet : (now : Section) (form : PacketForm) → kind ≡ kinds.Packet form → s ≡ Some now →
       PacketFault order now.interfaces form b code → BodyFault s order b kind code
 

@@ -3,12 +3,14 @@ use Rattle.std.specs.Prelude.{◌≡◌, ◌≢◌, ◌⊎◌, ◌<◌, ◌^◌,
 use Rattle.rip_capture.specs.Captures.{IsNext}
 use Rattle.rip_capture.specs.Codes.{is_read}
 use Rattle.rip_capture.specs.Finds.{IsFound}
+use Rattle.rip_capture.specs.Interfaces.{CameBy, Only, came_by}
 use Rattle.rip_capture.specs.NextCall.{EndsHere, HoldsPacket, IsFar, IsOver, Moves, Stands, StopsAt, held_by, position_of, refusal_of, section_by, source_of}
 use Rattle.rip_capture.specs.Pcap.{Frame}
 use Rattle.rip_capture.specs.Pcapng.{AreBlocks, BlockFault, Section, order_of}
 use Rattle.rip_log.specs.Feeds.{room}
 use Rattle.rip_log.specs.Spans.{IsWithin, slice_of}
 use Rattle.rip_capture.specs.declared.blocks.Block.{Block}
+use Rattle.rip_capture.specs.declared.interface.Interface.{Interface}
 use Rattle.rip_capture.specs.declared.error.CaptureCode.TheVariants.{Cut, Read}
 use Rattle.rip_capture.specs.declared.error.CaptureError.{CaptureError}
 use Rattle.rip_capture.specs.declared.reader.Format.{Format}
@@ -18,18 +20,29 @@ use Rattle.rip_capture.specs.declared.reader.Found.{Found}
 use Rattle.rip_capture.specs.declared.reader.Step.{Step}
 use Rattle.rip_capture.specs.declared.reader.Step.TheVariants.{Packet, Passed}
 
+-- the interface of a number, where the packet is one of a pcapng file
+abbrev pub came_in : List Interface → Option ℕ → CameBy
+came_in interfaces None = Only
+came_in interfaces (Some k) = came_by interfaces k
+
 -- what a found packet is in its file
 abbrev pub frame_at : {R : Type 0} → CaptureReader R → Found → Frame
-frame_at reader found =
-    record { link_type = found.link_type; bytes = slice_of reader.parts.feed.buffer.items found.bytes }
+frame_at reader found = record {
+  link_type = found.link_type;
+  bytes = slice_of reader.parts.feed.buffer.items found.bytes;
+  interface = came_in (section_by reader).interfaces found.interface;
+  time = found.time;
+}
 
 -- the offset of its record or block
 abbrev pub place_at : Found → ℕ
 place_at found = found.at
 
--- the packet lies in the buffer
+-- the packet lies in the buffer, and its interface was described
 abbrev pub IsGood : {R : Type 0} → CaptureReader R → Found → Type 0
-IsGood reader found = IsWithin (room reader.parts.feed) found.bytes
+IsGood reader found =
+    IsWithin (room reader.parts.feed) found.bytes
+    × IfSome found.interface (λ k. k < length (section_by reader).interfaces)
 
 -- the packet that a block brought does
 abbrev pub IsGoodStep : {R : Type 0} → CaptureReader R → Step → Type 0

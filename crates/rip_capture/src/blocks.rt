@@ -39,15 +39,6 @@ pub enum BlockKind {
     Other,
 }
 
-/// An interface of a section.
-#[derive(Clone, Copy, Default)]
-pub struct Interface {
-    /// The number of its link type.
-    pub link_number: u32,
-    /// The most bytes of a packet that it captures, or 0.
-    pub most: u32,
-}
-
 /// A block of which the front was read.
 #[derive(Clone, Copy)]
 pub struct Block {

@@ -2,15 +2,30 @@
 
 ghost use Rattle.std.specs.Prelude.{◌≡◌, ◌<◌, ◌≤◌, ◌↔◌, [], IsTrue, length, true};
 ghost use Rattle.rip_capture.specs.Bodies.{ReadsBody, ReadsPacket, entered, section_of};
-ghost use Rattle.rip_capture.specs.Pcapng.{IsSectionVersion, interface_in, interface_of, is_read_whole, least_len, packet_from, packet_len, simple_len};
+ghost use Rattle.rip_capture.specs.Interfaces.{came_by, came_of};
+ghost use Rattle.rip_capture.specs.Pcapng.{IsSectionVersion, interface_in, interface_of, is_read_whole, least_len, packet_from, packet_len, packet_time, simple_len};
 
-use crate::blocks::{Block, BlockKind, Interface, PacketForm};
+use crate::blocks::{Block, BlockKind, PacketForm};
 use crate::error::CaptureCode;
-use crate::limits::{MOST_CAPTURED, MOST_INTERFACES};
+use crate::interface::{FileInterface, Interface, Name};
+use crate::limits::{MILLIONTHS, MOST_CAPTURED, MOST_INTERFACES, MOST_NAME};
 use crate::link::LinkType;
 use crate::numbers::{Order, number_in, short_in};
+use crate::options::read_options;
+use crate::time::Time;
 use arrayvec::ArrayVec;
 use rip_log::Span;
+
+/// What the block of a packet says.
+#[derive(Clone, Copy)]
+pub struct PacketBody {
+    pub link_type: LinkType,
+    /// Where the packet lies in the block.
+    pub bytes: Span,
+    /// The number of its interface.
+    pub interface: usize,
+    pub time: Option<Time>,
+}
 
 /// What a block says.
 #[derive(Clone, Copy)]
@@ -19,8 +34,8 @@ pub enum Body {
     Section,
     /// The section has this interface too.
     Interface(Interface),
-    /// A packet of a link type, and where it lies in the block.
-    Packet(LinkType, Span),
+    /// A packet.
+    Packet(PacketBody),
     /// Nothing that is read.
     Other,
 }
@@ -56,7 +71,20 @@ impl OpenSection {
                 self.interfaces.clear();
             }
             Body::Interface(interface) => self.interfaces.push(interface),
-            Body::Packet(..) | Body::Other => {}
+            Body::Packet(_) | Body::Other => {}
+        }
+    }
+
+    /// The interface of a number.
+    pub fn interface(&self, number: usize) -> FileInterface<'_>
+        requires { number < length self.now.interfaces.items }
+        ensures { came_of result ≡ came_by self.now.interfaces.items number }
+    {
+        let name = &self.interfaces[number].name;
+        if name.len == 0 {
+            FileInterface::Numbered(number)
+        } else {
+            FileInterface::Named(&name.bytes[..name.len.min(MOST_NAME)])
         }
     }
 }
@@ -105,17 +133,34 @@ fn packet_len(order: Order, form: PacketForm, bytes: &[u8], interface: Interface
     }
 }
 
+/// The time of a packet, where its block has one: its high half is first in either byte order.
+fn packet_time(order: Order, form: PacketForm, bytes: &[u8], interface: Interface) -> Option<Time>
+    requires { least_len (BlockKind.Packet form) ≤ length bytes.now }
+    ensures { result ≡ packet_time order form bytes.now interface }
+{
+    match form {
+        PacketForm::Enhanced => Some(Time {
+            ticks: u64::from(number_in(order, bytes, 12)) * 0x1_0000_0000
+                + u64::from(number_in(order, bytes, 16)),
+            resolution: interface.resolution,
+            offset: interface.offset,
+        }),
+        PacketForm::Simple => None,
+    }
+}
+
 /// The packet in a block.
 fn read_packet(
     order: Order,
     interfaces: &[Interface],
     form: PacketForm,
     bytes: &[u8],
-) -> Result<(LinkType, Span), CaptureCode>
+) -> Result<PacketBody, CaptureCode>
     requires { least_len (BlockKind.Packet form) ≤ length bytes.now }
     ensures { ReadsPacket order interfaces.now form bytes.now result }
 {
-    let Some(interface) = interfaces.get(interface_of(order, form, bytes)) else {
+    let number = interface_of(order, form, bytes);
+    let Some(interface) = interfaces.get(number) else {
         return Err(CaptureCode::Interface);
     };
     let from = packet_from(form);
@@ -127,7 +172,12 @@ fn read_packet(
         return Err(CaptureCode::LinkType);
     };
     let to = from + len;
-    Ok((link_type, Span { from, to }))
+    Ok(PacketBody {
+        link_type,
+        bytes: Span { from, to },
+        interface: number,
+        time: packet_time(order, form, bytes, *interface),
+    })
 }
 
 /// Whether the version of a section is one that is read.
@@ -137,6 +187,20 @@ fn is_section_version(order: Order, bytes: &[u8]) -> bool
 {
     let minor = short_in(order, bytes, 14);
     short_in(order, bytes, 12) == 1 && (minor == 0 || minor == 2)
+}
+
+/// The interface that a block describes, without its options.
+fn interface_in(order: Order, bytes: &[u8]) -> Interface
+    requires { 16 ≤ length bytes.now }
+    ensures { result ≡ interface_in order bytes.now }
+{
+    Interface {
+        link_number: u32::from(short_in(order, bytes, 8)),
+        most: number_in(order, bytes, 12),
+        name: Name::none(),
+        resolution: MILLIONTHS,
+        offset: 0,
+    }
 }
 
 /// What a block says, where its section has described these interfaces so far. Of a block that is
@@ -162,13 +226,14 @@ pub(crate) fn read_body(
             if interfaces.len() >= MOST_INTERFACES {
                 return Err(CaptureCode::Interface);
             }
-            Ok(Body::Interface(Interface {
-                link_number: u32::from(short_in(order, bytes, 8)),
-                most: number_in(order, bytes, 12),
-            }))
+            let options = &bytes[16..bytes.len() - 4];
+            match read_options(order, interface_in(order, bytes), options) {
+                Ok(interface) => Ok(Body::Interface(interface)),
+                Err(code) => Err(code),
+            }
         }
         BlockKind::Packet(form) => match read_packet(order, interfaces, form, bytes) {
-            Ok((link_type, span)) => Ok(Body::Packet(link_type, span)),
+            Ok(packet) => Ok(Body::Packet(packet)),
             Err(code) => Err(code),
         },
         BlockKind::OldPacket | BlockKind::Other => Ok(Body::Other),

@@ -30,7 +30,7 @@ pub(crate) const LOOP_HEADER: usize = 4;
 pub(crate) const TAG: usize = 4;
 
 /// Whether the type is that of a tag.
-fn is_tag(kind: u16) -> bool
+pub(crate) fn is_tag(kind: u16) -> bool
     ensures { result ≡ is_tag kind }
 {
     kind == 0x8100 || kind == 0x88A8 || kind == 0x9100

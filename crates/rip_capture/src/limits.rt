@@ -44,5 +44,14 @@ pub(crate) const SECTION_FRONT: usize = 12;
 /// The most bytes of a block that is read.
 pub(crate) const MOST_BLOCK: usize = 524_288;
 
+/// The most bytes of the name of an interface: one that is longer is none.
+pub(crate) const MOST_NAME: usize = 64;
+
+/// The unit of times of an interface that says none: a millionth of a second.
+pub(crate) const MILLIONTHS: u8 = 6;
+
+/// The unit of times of a pcap file whose magic says so: a billionth of a second.
+pub(crate) const BILLIONTHS: u8 = 9;
+
 /// The most interfaces of a section.
 pub(crate) const MOST_INTERFACES: usize = 256;

@@ -2,7 +2,7 @@
 
 ghost use Rattle.std.specs.Prelude.{◌≡◌, ◌+◌, ◌≤◌, length};
 ghost use Rattle.rip_wire.specs.Fields.{number_at};
-ghost use Rattle.rip_capture.specs.Numbers.{number_in, short_in};
+ghost use Rattle.rip_capture.specs.Numbers.{long_in, number_in, short_in};
 
 use byteorder::{BigEndian, ByteOrder, LittleEndian};
 
@@ -41,6 +41,17 @@ pub(crate) fn short_in(order: Order, bytes: &[u8], at: usize) -> u16
     match order {
         Order::Big => BigEndian::read_u16(&bytes[at..]),
         Order::Little => LittleEndian::read_u16(&bytes[at..]),
+    }
+}
+
+/// The number in the eight bytes at an offset, in an order.
+pub(crate) fn long_in(order: Order, bytes: &[u8], at: usize) -> u64
+    requires { at + 8 ≤ length bytes.now }
+    ensures { result ≡ long_in order at bytes.now }
+{
+    match order {
+        Order::Big => BigEndian::read_u64(&bytes[at..]),
+        Order::Little => LittleEndian::read_u64(&bytes[at..]),
     }
 }
 

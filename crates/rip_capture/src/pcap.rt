@@ -6,20 +6,58 @@ ghost use Rattle.rip_capture.specs.Codes.{is_unread};
 ghost use Rattle.rip_log.specs.Feeds.{held};
 ghost use Rattle.rip_capture.specs.Feeds.{Keeps};
 ghost use Rattle.rip_capture.specs.Finds.{FindsHeader, FindsRecord, ReadsHeader};
-ghost use Rattle.rip_capture.specs.Pcap.{HoldsRecord, IsMagic};
+ghost use Rattle.rip_capture.specs.Pcap.{HoldsRecord, IsMagic, record_time, resolution_in};
 
 use crate::error::CaptureCode;
-use crate::limits::{FILE_HEADER, MAGIC_LEN, MOST_CAPTURED, RECORD_HEADER};
+use crate::limits::{BILLIONTHS, FILE_HEADER, MAGIC_LEN, MILLIONTHS, MOST_CAPTURED, RECORD_HEADER};
 use crate::link::LinkType;
 use crate::numbers::{Order, number_in, short_in};
 use crate::parts::Parts;
+use crate::time::Time;
 use rip_log::Source;
+
+/// How the packets of a file are framed, and the unit of their times.
+#[derive(Clone, Copy)]
+pub struct Framing {
+    pub link_type: LinkType,
+    pub resolution: u8,
+}
 
 /// What the header of a file says of its records.
 #[derive(Clone, Copy)]
 pub struct PcapHeader {
     pub order: Order,
-    pub link_type: LinkType,
+    pub framing: Framing,
+}
+
+/// The unit of times that the first four bytes of a file tell.
+fn resolution_in(order: Order, bytes: &[u8]) -> u8
+    requires { MAGIC_LEN ≤ length bytes.now }
+    ensures { result ≡ resolution_in order bytes.now }
+{
+    if number_in(order, bytes, 0) == 0xA1B2_3C4D {
+        BILLIONTHS
+    } else {
+        MILLIONTHS
+    }
+}
+
+/// The time of the record that bytes begin with.
+pub(crate) fn record_time(order: Order, resolution: u8, bytes: &[u8]) -> Time
+    requires { RECORD_HEADER ≤ length bytes.now }
+    ensures { result ≡ record_time order resolution bytes.now }
+{
+    let in_second: u64 = if resolution == BILLIONTHS {
+        1_000_000_000
+    } else {
+        1_000_000
+    };
+    let seconds = u64::from(number_in(order, bytes, 0));
+    Time {
+        ticks: seconds * in_second + u64::from(number_in(order, bytes, 4)),
+        resolution,
+        offset: 0,
+    }
 }
 
 /// The header behind these four bytes.
@@ -31,7 +69,14 @@ fn read_header(order: Order, bytes: &[u8]) -> Result<PcapHeader, CaptureCode>
         return Err(CaptureCode::Version);
     }
     match LinkType::of(number_in(order, bytes, 20) % 0x0400_0000) {
-        Some(link_type) => Ok(PcapHeader { order, link_type }),
+        Some(link_type) => {
+            let resolution = resolution_in(order, bytes);
+            let framing = Framing {
+                link_type,
+                resolution,
+            };
+            Ok(PcapHeader { order, framing })
+        }
         None => Err(CaptureCode::LinkType),
     }
 }

@@ -7,12 +7,14 @@ ghost use Rattle.std.specs.Io.BufRead.{Rests};
 use crate::blocks::{Block, BlockKind, PacketForm, first_block, next_block};
 use crate::bodies::{Body, OpenSection, read_body};
 use crate::error::{CaptureCode, CaptureError};
+use crate::interface::FileInterface;
 use crate::limits::{FILE_HEADER, MAGIC_LEN, RECORD_HEADER};
 use crate::link::LinkType;
 use crate::magic::{Magic, next_magic};
 use crate::numbers::Order;
 use crate::parts::Parts;
-use crate::pcap::{PcapHeader, next_header, next_record};
+use crate::pcap::{PcapHeader, next_header, next_record, record_time};
+use crate::time::Time;
 use rip_log::{Source, Span};
 use std::alloc::{AllocError, Global};
 
@@ -23,6 +25,10 @@ pub struct Packet<'a> {
     pub link_type: LinkType,
     /// The bytes that were captured.
     pub bytes: &'a [u8],
+    /// The interface that it came by.
+    pub interface: FileInterface<'a>,
+    /// When it was captured, where its file says so.
+    pub time: Option<Time>,
     /// The offset of its record, or its block, in the file.
     pub at: u64,
 }
@@ -32,6 +38,9 @@ pub struct Packet<'a> {
 struct Found {
     link_type: LinkType,
     bytes: Span,
+    /// The number of its interface, in a pcapng file.
+    interface: Option<usize>,
+    time: Option<Time>,
     at: u64,
 }
 
@@ -144,14 +153,16 @@ impl<R: Source> CaptureReader<R> {
         self.position = position;
         self.section.enter(block.order, body);
         match body {
-            Body::Packet(link_type, span) => {
+            Body::Packet(packet) => {
                 let bytes = Span {
-                    from: taken.from + span.from,
-                    to: taken.from + span.to,
+                    from: taken.from + packet.bytes.from,
+                    to: taken.from + packet.bytes.to,
                 };
                 Ok(Step::Packet(Found {
-                    link_type,
+                    link_type: packet.link_type,
                     bytes,
+                    interface: Some(packet.interface),
+                    time: packet.time,
                     at: begin,
                 }))
             }
@@ -215,6 +226,11 @@ impl<R: Source> CaptureReader<R> {
             Ok(None) => return Ok(None),
             Ok(Some(captured)) => captured,
         };
+        let time = record_time(
+            header.order,
+            header.framing.resolution,
+            self.parts.feed.held(),
+        );
         let len = RECORD_HEADER + captured;
         let Some(position) = at.checked_add(len as u64) else {
             let code = CaptureCode::Read;
@@ -223,11 +239,13 @@ impl<R: Source> CaptureReader<R> {
         let taken = self.parts.take(len);
         self.position = position;
         Ok(Some(Found {
-            link_type: header.link_type,
+            link_type: header.framing.link_type,
             bytes: Span {
                 from: taken.from + RECORD_HEADER,
                 to: taken.to,
             },
+            interface: None,
+            time: Some(time),
             at,
         }))
     }
@@ -305,9 +323,15 @@ impl<R: Source> CaptureReader<R> {
         ensures frame { frame_of result ≡ frame_at self.now found }
         ensures place { place_of result ≡ place_at found }
     {
+        let interface = match found.interface {
+            None => FileInterface::Only,
+            Some(number) => self.section.interface(number),
+        };
         Packet {
             link_type: found.link_type,
             bytes: self.parts.feed.range(found.bytes),
+            interface,
+            time: found.time,
             at: found.at,
         }
     }

@@ -1,11 +1,14 @@
-use Rattle.std.proofs.Common.{◌+◌, ◌≤◌, ◌∙◌, ℕ, List, ap, arith, drop, inl, inr, is_some, Option, refl, subst, sym}
+use Rattle.std.proofs.Common.{◌+◌, ◌≤◌, ◌∙◌, ℕ, List, ap, arith, drop, inl, inr, is_some, Option, Some, refl, subst, sym, take}
 use Rattle.std.proofs.lemmas.Bool.{false≢true}
 use Rattle.rip_log.specs.Wholes.{Went}
 use Rattle.rip_log.proofs.CutLemmas.{range-drop}
 use Rattle.rip_capture.proofs.ReaderLemmas.{EndsHere-found, StopsAt-far, StopsAt-record, TakesPacket-found}
 use Rattle.rip_log.specs.Feeds.{held}
 use Rattle.rip_capture.specs.NextCall.{HoldsPacket, IsFar, section_by}
-use Rattle.rip_capture.specs.Pcap.{Frame}
+use Rattle.rip_capture.specs.Interfaces.{Only}
+use Rattle.rip_capture.specs.Pcap.{Frame, record_time}
+use Rattle.rip_capture.specs.declared.time.Time.{Time}
+use Rattle.rip_capture.proofs.PcapLemmas.{time-front}
 use Rattle.rip_log.specs.declared.feed.Feed.{Feed}
 use Rattle.rip_capture.specs.declared.reader.CaptureReader.{CaptureReader}
 use Rattle.rip_capture.specs.declared.reader.Format.{Format}
@@ -77,12 +80,12 @@ returns-clause-runs g c =
     let span = took.result in
     let new : CaptureReader g.row.R.Denot = record { parts = took.new.self; format = old.format; section = old.section; position = c.in-Some.position; refusal = old.refusal } in
     let found = rw c.in-Ok-Some.field-0-is at c.in-Ok-Some.ensures.found in
-    let made : List ℕ → Frame = λ b. record { link_type = h.link_type; bytes = b } in
+    let made : List ℕ → Time → Frame = λ b time. record { link_type = h.framing.link_type; bytes = b; interface = Only; time = Some time } in
     let inside : span.from + 16 ≤ span.to = omega (arith, took.ensures.size) in
     let bytes = sym (range-drop took.new.self.feed.buffer.items span.from span.to 16 inside) ∙ ap (drop 16) took.ensures.lies in
     record {
       goes = λ before taken frames s. TakesPacket-found S.given before taken frames _ old new mid h n (S.at_end mid.source) c.requires c.requires c.next_record.ensures.keeps found took.ensures.takes
-          (omega (arith, c.in-Some.ensures)) (ap made bytes) s;
+          (omega (arith, c.in-Some.ensures)) (ap (λ b. made b c.record_time-time.result) bytes ∙ ap (made (drop 16 (take (16 + n) (held mid)))) (c.record_time-time.ensures ∙ ap (record_time h.order h.framing.resolution) c.held.ensures ∙ time-front h.order h.framing.resolution (held mid) n (omega (arith, found.0)))) s;
       moves = record {
         went = subst (λ (s : g.row.R.Denot). Went S.given S.coming S.at_end old.parts.feed.source s) (sym took.ensures.source) c.next_record.ensures.went;
         failed = λ bad. absurd (false≢true bad);

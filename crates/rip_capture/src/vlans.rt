@@ -1,0 +1,63 @@
+//! The VLANs of a frame (IEEE 802.1Q).
+
+ghost use Rattle.std.specs.Prelude.{◌≡◌, ◌+◌, ◌≤◌, ◌++◌, Decides, ℕ, List, length};
+ghost use Rattle.rip_capture.specs.Vlans.{HasVlans, HasVlansAt, type_place};
+
+use crate::frame::{TAG, is_tag};
+use crate::link::LinkType;
+use crate::numbers::u16_at;
+
+/// Where the type of a frame stands, and what it names begins, where its header is there whole and
+/// has a type.
+fn type_place(link_type: LinkType, frame: &[u8]) -> Option<(usize, usize)>
+    ensures { result ≡ type_place link_type frame.now }
+{
+    let (place, header) = match link_type {
+        LinkType::Ethernet => (12, 14),
+        LinkType::LinuxSll => (14, 16),
+        LinkType::LinuxSll2 => (0, 20),
+        LinkType::Null | LinkType::Loop | LinkType::Raw | LinkType::Ipv4 => return None,
+    };
+    if header <= frame.len() {
+        Some((place, header))
+    } else {
+        None
+    }
+}
+
+/// Whether the VLANs of the tags that begin where a type stands are these.
+fn are_vlans_at(frame: &[u8], place: usize, header: usize, vlans: &[u16]) -> bool
+    requires place { place + 2 ≤ header }
+    requires header { header ≤ length frame.now }
+    ensures { Decides result (HasVlansAt frame.now place header vlans.now) }
+{
+    let mut at = place;
+    let mut from = header;
+    let mut seen = 0;
+    'tags: while is_tag(u16_at(frame, at)) {
+        if frame.len() - from < TAG {
+            return seen == vlans.len();
+        }
+        let vlan = u16_at(frame, from) % 4096;
+        if vlan != 0 {
+            if seen == vlans.len() || vlans[seen] != vlan {
+                return false;
+            }
+            seen += 1;
+        }
+        at = from + 2;
+        from += TAG;
+    }
+    seen == vlans.len()
+}
+
+/// Whether the VLANs of a frame's tags are these, outermost first. A tag of VLAN 0 has a priority
+/// alone, and is none.
+pub fn are_vlans(link_type: LinkType, frame: &[u8], vlans: &[u16]) -> bool
+    ensures { Decides result (HasVlans link_type frame.now vlans.now) }
+{
+    match type_place(link_type, frame) {
+        Some((place, header)) => are_vlans_at(frame, place, header, vlans),
+        None => vlans.is_empty(),
+    }
+}
