@@ -17,3 +17,4 @@ pub mod EachLemmas
 pub mod BlockLemmas
 pub mod BodyLemmas
 pub mod ByteLemmas
+pub mod LengthLemmas

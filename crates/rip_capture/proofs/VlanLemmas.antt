@@ -1,11 +1,14 @@
 -- The VLANs of a frame are one list.
-use Rattle.std.proofs.Common.{◌≡◌, ◌≢◌, ◌⊎◌, ◌+◌, ◌++◌, ◌∷◌, ◌%◌, ◌<◌, ◌≤◌, ◌∙◌, ℕ, true, List, [], ap, append-nil, append_assoc, arith, get_or, inl, inr, length, nat_eq, subst, take, refl, sym, suc, zero}
+use Rattle.std.proofs.Common.{◌≡◌, ◌≢◌, ◌⊎◌, ◌+◌, ◌++◌, ◌∷◌, ◌%◌, ◌<◌, ◌≤◌, ◌∙◌, ℕ, true, List, [], ap, append-nil, append_assoc, arith, get_or, inl, inr, length, nat_eq, Option, Some, None, subst, take, refl, sym, suc, zero}
 use Rattle.std.proofs.lemmas.Bool.{both_ways, cases_Bool, cases_lt, eq-eqb, eqb-true, ne_eqb}
 use Rattle.std.proofs.lemmas.List.{length-append, length-take-le, take_all}
 use Rattle.std.proofs.Math.Seq.{get_or-append_seam, take-suc}
 use Rattle.rip_wire.specs.Fields.{number_at}
 use Rattle.rip_capture.specs.Frames.{is_tag}
-use Rattle.rip_capture.specs.Vlans.{HasVlansAt, with_vlan}
+use Rattle.rip_capture.specs.Interfaces.{CameBy}
+use Rattle.rip_capture.specs.Origins.{IsOrigin, Origin, header_number}
+use Rattle.rip_capture.specs.Pcap.{Frame}
+use Rattle.rip_capture.specs.Vlans.{HasVlansAt, HasVlansFrom, type_place, with_vlan}
 use Rattle.rip_capture.specs.Vlans.HasVlansAt.{none, cut, tag}
 
 pub Vlans-one : (frame : List ℕ) (at from : ℕ) (xs ys : List ℕ) → HasVlansAt frame at from xs → HasVlansAt frame at from ys → xs ≡ ys
@@ -75,3 +78,24 @@ pub take-more : (vlans : List ℕ) (seen vlan : ℕ) (others : List ℕ) → see
 take-more vlans seen vlan others few is =
     let next : take (seen + 1) vlans ≡ take seen vlans ++ vlan ∷ [] = (let e : seen + 1 ≡ suc seen = omega arith in rw e (take-suc vlans seen 0 few)) ∙ ap (λ v. take seen vlans ++ v ∷ []) is in
     sym (ap (λ l. l ++ others) next ∙ append_assoc (take seen vlans) (vlan ∷ []) others)
+
+-- ---- a packet comes from one place
+
+from-one : (at : Option (ℕ × ℕ)) (frame xs ys : List ℕ) → HasVlansFrom at frame xs → HasVlansFrom at frame ys → xs ≡ ys
+from-one None frame xs ys h k = h ∙ sym k
+from-one (Some place) frame xs ys h k = Vlans-one frame place.0 place.1 xs ys h k
+
+pub origin-one : (p : Frame) (o other : Origin) → IsOrigin p o → IsOrigin p other → o ≡ other
+origin-one p o other h k =
+    let vlans = from-one (type_place p.link_type p.bytes) p.bytes o.vlans other.vlans h.vlans k.vlans in
+    let made : CameBy → Option ℕ → List ℕ → Origin = λ i n v. record { interface = i; number = n; vlans = v } in
+    ap (λ i. made i o.number o.vlans) (h.interface ∙ sym k.interface) ∙ ap (λ n. made other.interface n o.vlans) (h.number ∙ sym k.number) ∙ ap (made other.interface other.number) vlans
+
+from-some : (at : Option (ℕ × ℕ)) (frame : List ℕ) → (vlans : List ℕ) × HasVlansFrom at frame vlans
+from-some None frame = ([], refl)
+from-some (Some place) frame = some-vlans frame place.0 place.1
+
+pub origin-some : (p : Frame) → (o : Origin) × IsOrigin p o
+origin-some p =
+    let vlans = from-some (type_place p.link_type p.bytes) p.bytes in
+    (record { interface = p.interface; number = header_number p.link_type p.bytes; vlans = vlans.0 }, record { interface = refl; number = refl; vlans = vlans.1 })

@@ -12,6 +12,7 @@ pub mod LinkTypes
 pub mod NextCall
 pub mod Numbers
 pub mod Options
+pub mod Origins
 pub mod Packets
 pub mod Passwords
 pub mod Pcap

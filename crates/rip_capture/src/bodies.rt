@@ -8,7 +8,7 @@ ghost use Rattle.rip_capture.specs.Pcapng.{IsSectionVersion, interface_in, inter
 use crate::blocks::{Block, BlockKind, PacketForm};
 use crate::error::CaptureCode;
 use crate::interface::{FileInterface, Interface, Name};
-use crate::limits::{MILLIONTHS, MOST_CAPTURED, MOST_INTERFACES, MOST_NAME};
+use crate::limits::{MILLIONTHS, MOST_CAPTURED, MOST_INTERFACES};
 use crate::link::LinkType;
 use crate::numbers::{Order, number_in, short_in};
 use crate::options::read_options;
@@ -84,7 +84,7 @@ impl OpenSection {
         if name.len == 0 {
             FileInterface::Numbered(number)
         } else {
-            FileInterface::Named(&name.bytes[..name.len.min(MOST_NAME)])
+            FileInterface::Named(name)
         }
     }
 }

@@ -7,6 +7,7 @@ ghost use Rattle.rip_capture.specs.Authentication.{AreEntries, IsAuthenticated, 
 ghost use Rattle.rip_capture.specs.Captures.{CaptureFault, IsCapture, IsRead};
 ghost use Rattle.rip_capture.specs.Carries.{Carries};
 ghost use Rattle.rip_capture.specs.NextCall.{HasRead};
+ghost use Rattle.rip_capture.specs.Origins.{IsOrigin, Origin};
 ghost use Rattle.rip_capture.specs.Pcap.{Frame};
 ghost use Rattle.rip_capture.specs.Pcapng.{Section};
 ghost use Rattle.rip_log.specs.Spans.{slice_of};
@@ -108,6 +109,18 @@ pub fn one_reading()
 pub fn read_captures()
     ensures { (format : Option Format) (now : Section) (taken : List ℕ) (frames : List Frame) →
         HasRead format now taken frames → IsRead taken frames }
+{}
+
+/// No packet has more bytes than a file may have of one.
+pub fn short_packets()
+    ensures { (file : List ℕ) (frames : List Frame) → IsCapture file frames →
+        AllByRecursion (λ frame. length frame.bytes ≤ MOST_CAPTURED) frames }
+{}
+
+/// Each packet comes from one place.
+pub fn one_origin()
+    ensures some { (p : Frame) → (o : Origin) × IsOrigin p o }
+    ensures one { (p : Frame) (o other : Origin) → IsOrigin p o → IsOrigin p other → o ≡ other }
 {}
 
 /// A capture has at least sixteen bytes for each packet.

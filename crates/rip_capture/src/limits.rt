@@ -31,6 +31,9 @@ pub(crate) const RECORD_HEADER: usize = 16;
 /// The most bytes of a packet that a file may have.
 pub const MOST_CAPTURED: usize = 262_144;
 
+/// The most VLANs of a packet: each has a tag of four bytes.
+pub(crate) const MOST_VLANS: usize = MOST_CAPTURED / 4;
+
 /// The number in front of a block that begins a section, the same in either byte order
 /// (draft-ietf-opsawg-pcapng, section 4.1).
 pub(crate) const SECTION: u32 = 0x0A0D_0D0A;

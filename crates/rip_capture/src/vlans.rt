@@ -1,6 +1,6 @@
 //! The VLANs of a frame (IEEE 802.1Q).
 
-ghost use Rattle.std.specs.Prelude.{◌≡◌, ◌+◌, ◌≤◌, ◌++◌, Decides, ℕ, List, length};
+ghost use Rattle.std.specs.Prelude.{◌≡◌, ◌+◌, ◌*◌, ◌≤◌, ◌++◌, Decides, ℕ, List, length, take};
 ghost use Rattle.rip_capture.specs.Vlans.{HasVlans, HasVlansAt, type_place};
 
 use crate::frame::{TAG, is_tag};
@@ -59,5 +59,47 @@ pub fn are_vlans(link_type: LinkType, frame: &[u8], vlans: &[u16]) -> bool
     match type_place(link_type, frame) {
         Some((place, header)) => are_vlans_at(frame, place, header, vlans),
         None => vlans.is_empty(),
+    }
+}
+
+/// Writes the VLANs of the tags that begin where a type stands to the front of a slice, and tells
+/// how many they are.
+fn write_vlans_at(frame: &[u8], place: usize, header: usize, vlans: &mut [u16]) -> usize
+    requires place { place + 2 ≤ header }
+    requires header { header ≤ length frame.now }
+    requires room { length frame.now ≤ 4 * length vlans.old }
+    ensures few { result ≤ length vlans.new }
+    ensures len { length vlans.new ≡ length vlans.old }
+    ensures vlans { HasVlansAt frame.now place header (take result vlans.new) }
+{
+    let mut at = place;
+    let mut from = header;
+    let mut count = 0;
+    'tags: while is_tag(u16_at(frame, at)) {
+        if frame.len() - from < TAG {
+            return count;
+        }
+        let vlan = u16_at(frame, from) % 4096;
+        if vlan != 0 {
+            vlans[count] = vlan;
+            count += 1;
+        }
+        at = from + 2;
+        from += TAG;
+    }
+    count
+}
+
+/// Writes the VLANs of a frame's tags, outermost first, to the front of a slice that has room for
+/// one in each four bytes of the frame, and tells how many they are.
+pub(crate) fn write_vlans(link_type: LinkType, frame: &[u8], vlans: &mut [u16]) -> usize
+    requires { length frame.now ≤ 4 * length vlans.old }
+    ensures few { result ≤ length vlans.new }
+    ensures len { length vlans.new ≡ length vlans.old }
+    ensures vlans { HasVlans link_type frame.now (take result vlans.new) }
+{
+    match type_place(link_type, frame) {
+        Some((place, header)) => write_vlans_at(frame, place, header, vlans),
+        None => 0,
     }
 }

@@ -25,7 +25,8 @@ use Rattle.rip_report.specs.CaptureLogs.IsRefusedAt.{fault, packet, comment}
 use Rattle.rip_report.specs.CapturePackets.{ClosesFile, EndsSo}
 use Rattle.rip_report.specs.Outs.{Adds, Progress}
 use Rattle.rip_report.specs.Sent.{SinkState, sink_state}
-use Rattle.rip_report.specs.CaptureText.{Carrier, IsCarrier, comment_line, counted_status, line_count, packet_lines}
+use Rattle.rip_report.specs.CaptureText.{AreCarriers, comment_line, counted_status, line_count, packet_lines}
+use Rattle.rip_report.specs.Selections.{Carrier, Choice, Part}
 use Rattle.rip_report.specs.Statuses.{fault_line_of}
 use Rattle.rip_report.specs.Written.{line}
 use Rattle.rip_report.specs.declared.captures.authentication.Authentication.{Authentication}
@@ -58,9 +59,9 @@ no-frames [] e = refl
 no-frames (c ∷ cs) e = cc e
 
 -- what was read of a file is a beginning of it
-begins-read : (cs : List Carrier) (bytes front rest : List ℕ) → AllByRecursion IsCarrier cs → IsRead front (map (λ c. c.frame) cs) → bytes ≡ front ++ rest → BeginsWith bytes cs
-begins-read cs bytes front rest carry (nothing_read empty none_of) split = none (no-frames cs none_of)
-begins-read cs bytes front rest carry (capture_read is) split = some front rest split (record { capture = is; carry = carry })
+begins-read : (choice : Choice) (cs : List Carrier) (bytes front rest : List ℕ) → AreCarriers choice cs → IsRead front (map (λ c. c.frame) cs) → bytes ≡ front ++ rest → BeginsWith choice bytes cs
+begins-read choice cs bytes front rest carry (nothing_read empty none_of) split = none (no-frames cs none_of)
+begins-read choice cs bytes front rest carry (capture_read is) split = some front rest split (record { capture = is; are = carry })
 
 module _ {R : Type 0} (given : R → List ℕ) (at_end : R → Bool) (before bytes : List ℕ) (reader : CaptureReader R)
     (text : Begins (before ++ bytes) (given (source_of reader)) (at_end (source_of reader))) where
@@ -77,8 +78,8 @@ module _ {R : Type 0} (given : R → List ℕ) (at_end : R → Bool) (before byt
       ∙ ap (λ l. h.file ++ l) h.all ∙ append-nil h.file
 
   -- what was read is a beginning of the file
-  begins-by : (cs : List Carrier) (front rest : List ℕ) → AllByRecursion IsCarrier cs → IsRead front (map (λ c. c.frame) cs) → given (source_of reader) ≡ before ++ front ++ rest → BeginsWith bytes cs
-  begins-by cs front rest carry read gave = begins-read cs bytes front (rest ++ text.left) carry read (split-by front rest gave ∙ append_assoc front rest text.left)
+  begins-by : (choice : Choice) (cs : List Carrier) (front rest : List ℕ) → AreCarriers choice cs → IsRead front (map (λ c. c.frame) cs) → given (source_of reader) ≡ before ++ front ++ rest → BeginsWith choice bytes cs
+  begins-by choice cs front rest carry read gave = begins-read choice cs bytes front (rest ++ text.left) carry read (split-by front rest gave ∙ append_assoc front rest text.left)
 
   -- a file that is refused by its fault
   fault-by : Early → (frames : List Frame) (front rest : List ℕ) (code : CaptureCode) (at : ℕ) → given (source_of reader) ≡ before ++ front ++ rest → CaptureFault (front ++ rest) frames code at
@@ -101,27 +102,27 @@ module _ {R : Type 0} (given : R → List ℕ) (at_end : R → Bool) (before byt
     by_code NoRead found ended = later NoRead (λ e. cc e) found
 
   -- a file that is refused since the log has no room
-  many-by : (how : Authentication) (lines : ℕ) (cs : List Carrier) (at : ℕ) (out : Progress) → AllByRecursion IsCarrier cs →
-      EndsSo given at_end how before lines cs reader out (Refused TooManyLines at)
-      → IsRefusedAt lines bytes cs TooManyLines at
-  many-by how lines cs at out carry (count, inl (next, is, takes, has)) =
-      packet takes.front takes.bytes (held_by reader ++ text.left) next (record { capture = takes.right; carry = carry })
-      (record { capture = subst (λ (fs : List Frame). IsCapture (takes.front ++ takes.bytes) fs) (sym (frames-snoc cs next)) takes.longer; carry = all-snoc IsCarrier cs next carry is })
+  many-by : (how : Authentication) (choice : Choice) (lines : ℕ) (cs : List Carrier) (at : ℕ) (out : Progress) → AreCarriers choice cs →
+      EndsSo given at_end how choice before lines cs reader out (Refused TooManyLines at)
+      → IsRefusedAt choice lines bytes cs TooManyLines at
+  many-by how choice lines cs at out carry (count, inl (next, is, takes, has)) =
+      packet takes.front takes.bytes (held_by reader ++ text.left) next (record { capture = takes.right; are = carry })
+      (record { capture = subst (λ (fs : List Frame). IsCapture (takes.front ++ takes.bytes) fs) (sym (frames-snoc cs next)) takes.longer; are = is })
       takes.next
       (split-at (takes.front ++ takes.bytes) (map (λ c. c.frame) cs ++ next.frame ∷ []) takes.stands ∙ append_assoc (takes.front ++ takes.bytes) (held_by reader) text.left)
       has count takes.place_is refl
-  many-by how lines cs at out carry (count, inr (here, place)) =
+  many-by how choice lines cs at out carry (count, inr (here, place)) =
       let is = whole-is (map (λ c. c.frame) cs) here in
-      comment (record { capture = subst (λ l. IsCapture l (map (λ c. c.frame) cs)) (sym is) here.right; carry = carry })
+      comment (record { capture = subst (λ l. IsCapture l (map (λ c. c.frame) cs)) (sym is) here.right; are = carry })
       count (place ∙ here.stands.position ∙ ap length (sym is)) refl
 
 -- a run that wrote the text of a file, and then ends, has added it
-module _ {K : Type 0} (taken : K → Taken) (broken : K → Bool) (old new : K) (before after : CaptureLog) (link bytes : List ℕ) where
+module _ {K : Type 0} (taken : K → Taken) (broken : K → Bool) (old new : K) (before after : CaptureLog) (part : Part) (bytes : List ℕ) where
   pub adds-text : (text : List ℕ) (lines : ℕ) (answer result : Result Status RunError) → EndsWith (sink_state taken broken old) (sink_state taken broken new) text answer result
-      → FileText before.authentication (before.files + 1) before.lines link bytes text lines answer → Follows before after lines result → AddsFile taken broken old new before after link bytes result
+      → FileText before.authentication (before.files + 1) before.lines part bytes text lines answer → Follows before after lines result → AddsFile taken broken old new before after part bytes result
   adds-text text lines answer result ends is follows = record {
     kept = λ e is_error. subst (Follows before after lines) is_error follows;
-    text = λ h. let out = ends.out h in (text, lines, subst (λ r. FileText before.authentication (before.files + 1) before.lines link bytes text lines r) (sym out.0) is, out.1, follows);
+    text = λ h. let out = ends.out h in (text, lines, subst (λ r. FileText before.authentication (before.files + 1) before.lines part bytes text lines r) (sym out.0) is, out.1, follows);
     write = λ e. let h = ends.write e in (h.0, (text, whole_front lines answer is, h.1));
     sink = ends.sink;
   }
@@ -136,35 +137,35 @@ module _ {K : Type 0} (taken : K → Taken) (broken : K → Bool) (old new : K) 
 
 module _ {R K : Type 0} (given : R → List ℕ) (at_end : R → Bool) (start bytes : List ℕ) (reader : CaptureReader R)
     (text : Begins (start ++ bytes) (given (source_of reader)) (at_end (source_of reader)))
-    (taken : K → Taken) (broken : K → Bool) (old new : K) (before after : CaptureLog) (link : List ℕ) (out : Progress) (early : Early) (captures : ReadCaptures)
-    (cs : List Carrier) (carry : AllByRecursion IsCarrier cs) (few : before.lines + line_count cs ≤ 1000000) where
-  pub adds-file : (ending : Ending) (result : Result Status RunError) → EndsSo given at_end before.authentication start before.lines cs reader out ending
-      → ClosesFile (sink_state taken broken old) (sink_state taken broken new) before after link (packet_lines before.authentication link cs) ending result → AddsFile taken broken old new before after link bytes result
+    (taken : K → Taken) (broken : K → Bool) (old new : K) (before after : CaptureLog) (part : Part) (out : Progress) (early : Early) (captures : ReadCaptures)
+    (cs : List Carrier) (carry : AreCarriers part.choice cs) (few : before.lines + line_count cs ≤ 1000000) where
+  pub adds-file : (ending : Ending) (result : Result Status RunError) → EndsSo given at_end before.authentication part.choice start before.lines cs reader out ending
+      → ClosesFile (sink_state taken broken old) (sink_state taken broken new) before after part.link (packet_lines before.authentication part.link cs) ending result → AddsFile taken broken old new before after part bytes result
   adds-file (Whole tally) result (here, counts, count, room) (ends, follows) =
       let is = whole-is given at_end start bytes reader text (map (λ c. c.frame) cs) here in
-      adds-text taken broken old new before after link bytes _ (tally.lines + 1) _ result ends
-      (whole cs (record { capture = subst (λ l. IsCapture l (map (λ c. c.frame) cs)) (sym is) here.right; carry = carry }) (omega (arith, count)) (omega (arith, room))
-      (ap (λ n. packet_lines before.authentication link cs ++ comment_line (before.files + 1) link n) counts) (ap (λ n. Ok (counted_status n)) counts)) follows
+      adds-text taken broken old new before after part bytes _ (tally.lines + 1) _ result ends
+      (whole cs (record { capture = subst (λ l. IsCapture l (map (λ c. c.frame) cs)) (sym is) here.right; are = carry }) (omega (arith, count)) (omega (arith, room))
+      (ap (λ n. packet_lines before.authentication part.link cs ++ comment_line (before.files + 1) part.link n) counts) (ap (λ n. Ok (counted_status n)) counts)) follows
   adds-file (Refused (Capture code) at) result (stops, calm) (ends, same) =
       let found = fault-by given at_end start bytes reader text early (map (λ c. c.frame) cs) stops.front stops.rest code at stops.gave (stops.fault calm) stops.ended in
-      adds-text taken broken old new before after link bytes _ 0 _ result ends
-      (refused cs (Capture code) at (fault code found carry few refl) refl refl) (not-followed taken broken old new before after link bytes _ 0 _ result (inl refl) ends same)
+      adds-text taken broken old new before after part bytes _ 0 _ result ends
+      (refused cs (Capture code) at (fault code found carry few refl) refl refl) (not-followed taken broken old new before after part bytes _ 0 _ result (inl refl) ends same)
   adds-file (Refused TooManyLines at) result ends_so (ends, same) =
-      adds-text taken broken old new before after link bytes _ 0 _ result ends
-      (refused cs TooManyLines at (many-by given at_end start bytes reader text before.authentication before.lines cs at out carry ends_so) refl refl)
-      (not-followed taken broken old new before after link bytes _ 0 _ result (inl refl) ends same)
+      adds-text taken broken old new before after part bytes _ 0 _ result ends
+      (refused cs TooManyLines at (many-by given at_end start bytes reader text before.authentication part.choice before.lines cs at out carry ends_so) refl refl)
+      (not-followed taken broken old new before after part bytes _ 0 _ result (inl refl) ends same)
   adds-file Unread result (error, stops, failed) (ends, same) =
-      adds-text taken broken old new before after link bytes _ 0 _ result ends
-      (unread cs (begins-by given at_end start bytes reader text cs stops.front stops.rest carry stops.read stops.gave) few refl refl)
-      (not-followed taken broken old new before after link bytes _ 0 _ result (inr refl) ends same)
+      adds-text taken broken old new before after part bytes _ 0 _ result ends
+      (unread cs (begins-by given at_end start bytes reader text part.choice cs stops.front stops.rest carry stops.read stops.gave) few refl refl)
+      (not-followed taken broken old new before after part bytes _ 0 _ result (inr refl) ends same)
   adds-file Unwritten result (failed, (so_far, stands)) (is, sink, began, same) = record {
     text = λ h. absurd (h is);
     write = λ e. (
       sink,
       (
-        packet_lines before.authentication link cs,
+        packet_lines before.authentication part.link cs,
         some_packets cs
-            (begins-by given at_end start bytes reader text cs so_far (held_by reader) carry
+            (begins-by given at_end start bytes reader text part.choice cs so_far (held_by reader) carry
             (captures reader.format (section_by reader) so_far (map (λ c. c.frame) cs) stands.read) stands.gave) few refl,
         began,
       ),
@@ -192,9 +193,9 @@ never-memory taken broken old new before after link text Unread result (ends, sa
 never-memory taken broken old new before after link text Unwritten result (is, sink, began, same) e = cc (is, e)
 
 module _ {R : Type 0} (given : R → List ℕ) (at_end : R → Bool) (start bytes : List ℕ) (reader : CaptureReader R)
-    (text : Begins (start ++ bytes) (given (source_of reader)) (at_end (source_of reader))) (how : Authentication) (lines : ℕ) (out : Progress) (cs : List Carrier) where
+    (text : Begins (start ++ bytes) (given (source_of reader)) (at_end (source_of reader))) (how : Authentication) (choice : Choice) (lines : ℕ) (out : Progress) (cs : List Carrier) where
   -- or the file is longer than offsets go
-  pub far-bytes : EndsSo given at_end how start lines cs reader out Unread → IsFar reader → 2 ^ 64 ≤ length bytes + 2 ^ 32
+  pub far-bytes : EndsSo given at_end how choice start lines cs reader out Unread → IsFar reader → 2 ^ 64 ≤ length bytes + 2 ^ 32
   far-bytes (error, stops, failed) far =
       let is = split-by given at_end start bytes reader text stops.front stops.rest stops.gave in
       let size : length bytes ≡ length stops.front + length (stops.rest ++ text.left) =
@@ -203,15 +204,15 @@ module _ {R : Type 0} (given : R → List ℕ) (at_end : R → Bool) (start byte
 
 -- what went out where the source failed has each packet that it gave whole
 pub adds-unread : {R K : Type 0} (given : R → List ℕ) (at_end : R → Bool) (start bytes : List ℕ) (reader : CaptureReader R) (taken : K → Taken) (broken : K → Bool) (old new : K)
-    (before after : CaptureLog) (link : List ℕ) (lines : ℕ) (out : Progress) (cs : List Carrier)
-    → AllByRecursion IsCarrier cs → given (source_of reader) ≡ start ++ bytes → EndsSo given at_end before.authentication start lines cs reader out Unread → (result : Result Status RunError)
-    → ClosesFile (sink_state taken broken old) (sink_state taken broken new) before after link (packet_lines before.authentication link cs) Unread result
-    → result ≡ Err Read → AddsUnread taken old new before.authentication link bytes
-adds-unread given at_end start bytes reader taken broken old new before after link lines out cs carry gave (error, stops, failed) result (ends, same) e =
+    (before after : CaptureLog) (part : Part) (lines : ℕ) (out : Progress) (cs : List Carrier)
+    → AreCarriers part.choice cs → given (source_of reader) ≡ start ++ bytes → EndsSo given at_end before.authentication part.choice start lines cs reader out Unread → (result : Result Status RunError)
+    → ClosesFile (sink_state taken broken old) (sink_state taken broken new) before after part.link (packet_lines before.authentication part.link cs) Unread result
+    → result ≡ Err Read → AddsUnread taken old new before.authentication part bytes
+adds-unread given at_end start bytes reader taken broken old new before after part lines out cs carry gave (error, stops, failed) result (ends, same) e =
     let is : bytes ≡ stops.front ++ stops.rest = append_cancel_left start bytes (stops.front ++ stops.rest) (sym gave ∙ stops.gave ∙ append_assoc start stops.front stops.rest) in
     record {
       carriers = cs;
-      begins = begins-read cs bytes stops.front stops.rest carry stops.read is;
+      begins = begins-read part.choice cs bytes stops.front stops.rest carry stops.read is;
       all = elim (stops.all failed) [
         | inl no_more ↦ inl (subst (λ (l : List ℕ). HasNoMore l (map (λ (c : Carrier). c.frame) cs)) (sym is) no_more)
         | inr far ↦ inr (omega (arith, far, stops.position, ap length is, length-append stops.front stops.rest))
@@ -235,30 +236,30 @@ closes-behind a new begun out before after link lines ending result start empty 
 
 -- ---- a log that goes on
 
-module _ (before after : CaptureLog) (link bytes part : List ℕ) (lines : ℕ) (files : List File) (text : List ℕ) (is : IsLogOf before files text) where
-  stops : (answer : Result Status RunError) → FileText before.authentication (before.files + 1) before.lines link bytes part lines answer → (answer ≡ Ok RefusedFile) ⊎ (is_err answer ≡ true)
-      → LogOf before.authentication (files ++ record { link = link; bytes = bytes } ∷ []) (text ++ part) answer
-  stops answer file stop = stopped files [] (record { link = link; bytes = bytes }) text part before.lines lines before.status is.so_far
-      (subst (λ n. FileText before.authentication (n + 1) before.lines link bytes part lines answer) is.count file) stop refl refl
+module _ (before after : CaptureLog) (part : Part) (bytes piece : List ℕ) (lines : ℕ) (files : List File) (text : List ℕ) (is : IsLogOf before files text) where
+  stops : (answer : Result Status RunError) → FileText before.authentication (before.files + 1) before.lines part bytes piece lines answer → (answer ≡ Ok RefusedFile) ⊎ (is_err answer ≡ true)
+      → LogOf before.authentication (files ++ record { part = part; bytes = bytes } ∷ []) (text ++ piece) answer
+  stops answer file stop = stopped files [] (record { part = part; bytes = bytes }) text piece before.lines lines before.status is.so_far
+      (subst (λ n. FileText before.authentication (n + 1) before.lines part bytes piece lines answer) is.count file) stop refl refl
 
-  one-more : (status : Status) → status ≢ RefusedFile → FileText before.authentication (before.files + 1) before.lines link bytes part lines (Ok status)
+  one-more : (status : Status) → status ≢ RefusedFile → FileText before.authentication (before.files + 1) before.lines part bytes piece lines (Ok status)
       → (after.authentication ≡ before.authentication) × (after.files ≡ before.files + 1) × (after.lines ≡ lines) × (after.status ≡ worse before.status status)
-      → IsLogOf after (files ++ record { link = link; bytes = bytes } ∷ []) (text ++ part)
+      → IsLogOf after (files ++ record { part = part; bytes = bytes } ∷ []) (text ++ piece)
   one-more status good file (same, count, ends, answers) = record {
-    count = count ∙ ap (λ n. n + 1) is.count ∙ sym (length-snoc files (record { link = link; bytes = bytes }));
-    so_far = subst (λ h. SoFar h (files ++ record { link = link; bytes = bytes } ∷ []) (text ++ part) after.lines after.status) (sym same)
-        (subst (λ n. SoFar before.authentication (files ++ record { link = link; bytes = bytes } ∷ []) (text ++ part) n after.status) (sym ends)
-        (subst (λ s. SoFar before.authentication (files ++ record { link = link; bytes = bytes } ∷ []) (text ++ part) lines s) (sym answers)
-        (more files (record { link = link; bytes = bytes }) text part before.lines lines before.status status is.so_far good
-        (subst (λ n. FileText before.authentication (n + 1) before.lines link bytes part lines (Ok status)) is.count file))));
+    count = count ∙ ap (λ n. n + 1) is.count ∙ sym (length-snoc files (record { part = part; bytes = bytes }));
+    so_far = subst (λ h. SoFar h (files ++ record { part = part; bytes = bytes } ∷ []) (text ++ piece) after.lines after.status) (sym same)
+        (subst (λ n. SoFar before.authentication (files ++ record { part = part; bytes = bytes } ∷ []) (text ++ piece) n after.status) (sym ends)
+        (subst (λ s. SoFar before.authentication (files ++ record { part = part; bytes = bytes } ∷ []) (text ++ piece) lines s) (sym answers)
+        (more files (record { part = part; bytes = bytes }) text piece before.lines lines before.status status is.so_far good
+        (subst (λ n. FileText before.authentication (n + 1) before.lines part bytes piece lines (Ok status)) is.count file))));
   }
 
-  still : (answer : Result Status RunError) → after ≡ before → LogOf before.authentication (files ++ record { link = link; bytes = bytes } ∷ []) (text ++ part) answer
-      → LogOf after.authentication (files ++ record { link = link; bytes = bytes } ∷ []) (text ++ part) answer
-  still answer same log = subst (λ (l : CaptureLog). LogOf l.authentication (files ++ record { link = link; bytes = bytes } ∷ []) (text ++ part) answer) (sym same) log
+  still : (answer : Result Status RunError) → after ≡ before → LogOf before.authentication (files ++ record { part = part; bytes = bytes } ∷ []) (text ++ piece) answer
+      → LogOf after.authentication (files ++ record { part = part; bytes = bytes } ∷ []) (text ++ piece) answer
+  still answer same log = subst (λ (l : CaptureLog). LogOf l.authentication (files ++ record { part = part; bytes = bytes } ∷ []) (text ++ piece) answer) (sym same) log
 
-  pub goes-on : (answer : Result Status RunError) → FileText before.authentication (before.files + 1) before.lines link bytes part lines answer → Follows before after lines answer
-      → GoesOn after (files ++ record { link = link; bytes = bytes } ∷ []) (text ++ part) answer
+  pub goes-on : (answer : Result Status RunError) → FileText before.authentication (before.files + 1) before.lines part bytes piece lines answer → Follows before after lines answer
+      → GoesOn after (files ++ record { part = part; bytes = bytes } ∷ []) (text ++ piece) answer
   goes-on (Ok RefusedFile) file follows = still (Ok RefusedFile) follows (stops (Ok RefusedFile) file (inl refl))
   goes-on (Ok Done) file follows = one-more Done (λ e. cc e) file follows
   goes-on (Ok Unclear) file follows = one-more Unclear (λ e. cc e) file follows
@@ -266,26 +267,26 @@ module _ (before after : CaptureLog) (link bytes part : List ℕ) (lines : ℕ) 
   goes-on (Ok Unsettled) file follows = one-more Unsettled (λ e. cc e) file follows
   goes-on (Err e) file follows = still (Err e) follows (stops (Err e) file (inr refl))
 
-pub log-goes-on : {K : Type 0} (taken : K → Taken) (broken : K → Bool) (old new : K) (before after : CaptureLog) (link bytes : List ℕ) (answer : Result Status RunError) →
-    AddsFile taken broken old new before after link bytes answer
+pub log-goes-on : {K : Type 0} (taken : K → Taken) (broken : K → Bool) (old new : K) (before after : CaptureLog) (part : Part) (bytes : List ℕ) (answer : Result Status RunError) →
+    AddsFile taken broken old new before after part bytes answer
     → (files : List File) (text : List ℕ) → IsLogOf before files text → answer ≢ Err Write
-    → (part : List ℕ) × Took (taken old) (taken new) part × GoesOn after (files ++ record { link = link; bytes = bytes } ∷ []) (text ++ part) answer
-log-goes-on taken broken old new before after link bytes answer adds files text is wrote =
+    → (piece : List ℕ) × Took (taken old) (taken new) piece × GoesOn after (files ++ record { part = part; bytes = bytes } ∷ []) (text ++ piece) answer
+log-goes-on taken broken old new before after part bytes answer adds files text is wrote =
     let out = adds.text wrote in
-    (out.0, out.3, goes-on before after link bytes out.0 out.1 files text is answer out.2 out.4)
+    (out.0, out.3, goes-on before after part bytes out.0 out.1 files text is answer out.2 out.4)
 
 -- a failure before a file is begun, of which nothing was read
-pub failed-text : (error : RunError) → error ≢ Write → (how : Authentication) (n lines : ℕ) (link bytes : List ℕ) → lines ≤ 1000000 →
-    FileText how n lines link bytes (line (fault_line_of error)) lines (Err error)
-failed-text Read h how n lines link bytes few = unread [] (none refl) (omega (arith, few)) refl refl
-failed-text Write h how n lines link bytes few = absurd (h refl)
-failed-text Memory h how n lines link bytes few = memory refl refl
+pub failed-text : (error : RunError) → error ≢ Write → (how : Authentication) (n lines : ℕ) (part : Part) (bytes : List ℕ) → lines ≤ 1000000 →
+    FileText how n lines part bytes (line (fault_line_of error)) lines (Err error)
+failed-text Read h how n lines part bytes few = unread [] (none refl) (omega (arith, few)) refl refl
+failed-text Write h how n lines part bytes few = absurd (h refl)
+failed-text Memory h how n lines part bytes few = memory refl refl
 
 pub failure-goes-on : {K : Type 0} (taken : K → Taken) (broken : K → Bool) (old new : K) (error : RunError) (result : Result Status RunError) → error ≢ Write
     → EndsWith (sink_state taken broken old) (sink_state taken broken new) (line (fault_line_of error)) (Err error) result → (log : CaptureLog) (files : List File) (text : List ℕ) (file : File) → IsLogOf log files text → result ≢ Err Write
-    → (part : List ℕ) × Took (taken old) (taken new) part × LogOf log.authentication (files ++ file ∷ []) (text ++ part) result
+    → (piece : List ℕ) × Took (taken old) (taken new) piece × LogOf log.authentication (files ++ file ∷ []) (text ++ piece) result
 failure-goes-on taken broken old new error result good ends log files text file is wrote =
     let out = ends.out wrote in
-    let log_of = stopped files [] file text (line (fault_line_of error)) log.lines log.lines log.status is.so_far (failed-text error good log.authentication (length files + 1) log.lines file.link file.bytes log.few)
+    let log_of = stopped files [] file text (line (fault_line_of error)) log.lines log.lines log.status is.so_far (failed-text error good log.authentication (length files + 1) log.lines file.part file.bytes log.few)
     (inr refl) refl refl in
     (line (fault_line_of error), out.1, subst (λ r. LogOf log.authentication (files ++ file ∷ []) (text ++ line (fault_line_of error)) r) (sym out.0) log_of)

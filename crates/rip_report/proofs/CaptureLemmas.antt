@@ -1,5 +1,5 @@
 -- Digits in parts, and packets one after the other.
-use Rattle.std.proofs.Common.{◌≡◌, ◌≢◌, ◌==◌, if◌then◌else◌, inr, ◌+◌, ◌-◌, ◌*◌, ◌/◌, ◌%◌, ◌^◌, ◌<◌, ◌≤◌, ◌∙◌, ℕ, Bool, true, false, cond, List, [], ◌∷◌, ◌++◌, length, slice_index, map, ap, sym, refl, arith, append_assoc, append-nil}
+use Rattle.std.proofs.Common.{◌≡◌, ◌≢◌, ◌==◌, if◌then◌else◌, inr, ◌+◌, ◌-◌, ◌*◌, ◌/◌, ◌%◌, ◌^◌, ◌<◌, ◌≤◌, ◌∙◌, ℕ, Bool, true, false, cond, Option, None, List, [], ◌∷◌, ◌++◌, length, slice_index, map, ap, sym, refl, arith, append_assoc, append-nil}
 use Rattle.std.specs.Prelude.{count_by}
 use Rattle.std.specs.List.{AllByRecursion}
 use Rattle.std.proofs.lemmas.Bool.{eqb-false, eqb-true}
@@ -17,13 +17,20 @@ use Rattle.rip_capture.specs.declared.packet.Carried.TheVariants.{Cut as CutOff,
 use Rattle.rip_capture.specs.declared.error.CaptureCode.{CaptureCode}
 use Rattle.rip_capture.specs.declared.error.CaptureCode.TheVariants.{Magic, Cut, Version, LinkType as NoLinkType, Length, Interface, OldPacket, Read}
 use Rattle.rip_capture.specs.declared.reader.CaptureReader.{CaptureReader}
-use Rattle.rip_report.specs.CapturePackets.{EndsSo, ended_at, ended_by}
+use Rattle.rip_report.specs.CapturePackets.{EndsSo, Keeps, ended_at, ended_by}
 use Rattle.rip_report.specs.declared.captures.authentication.Authentication.{Authentication}
 use Rattle.rip_report.specs.declared.captures.authentication.Authentication.TheVariants.{AsSent}
 use Rattle.rip_report.specs.declared.captures.ending.Ending.TheVariants.{Refused as RefusedFile, Unread, Whole}
 use Rattle.rip_report.specs.declared.captures.ending.RefusalCode.TheVariants.{TooManyLines}
 use Rattle.rip_report.specs.declared.captures.tally.Tally.{Tally}
-use Rattle.rip_report.specs.CaptureText.{Carrier, HasRoom, carried_line, count_of, counted, counts_of, has_line, is_cut, is_datagram, is_elsewhere, is_fragment, is_long, is_malformed, is_other, line_count, omitted_of, one, packet_lines}
+use Rattle.rip_report.specs.CaptureText.{AreCarriers, HasRoom, count_of, counted, counts_of, has_line, is_cut, is_datagram, is_elsewhere, is_fragment, is_long, is_malformed, is_mixed, is_other, line_count, logged_line, mixed_count, omitted_of, one, packet_lines, such}
+use Rattle.rip_report.specs.LoggedDatagrams.{nothing_omitted}
+use Rattle.rip_capture.specs.Origins.{origin_in}
+use Rattle.rip_capture.specs.declared.first.FirstOrigin.{FirstOrigin}
+use Rattle.rip_report.specs.Selections.{AreLogged, Carrier, Choice, IsCarrier, IsLogged, Of, OneOrigin, first_behind, first_with}
+use Rattle.rip_report.specs.declared.captures.authentication.Omitted.{Omitted}
+use Rattle.rip_report.specs.declared.captures.logged.Logged.{Logged}
+use Rattle.rip_report.specs.declared.captures.logged.Logged.TheVariants.{As, Mixed}
 use Rattle.rip_report.proofs.OutLemmas.{adds_same, adds_then}
 use Rattle.rip_report.specs.Outs.{Adds, Progress}
 use Rattle.rip_report.specs.declared.captures.counts.PacketCounts.{PacketCounts}
@@ -46,35 +53,56 @@ module _ {X : Type 0} where
   all-snoc P [] x h p = (p, tt)
   all-snoc P (y ∷ xs) x h p = (h.0, all-snoc P xs x h.1 p)
 
+  pub all-last : (P : X → Type 0) (xs : List X) (x : X) → AllByRecursion P (xs ++ x ∷ []) → P x
+  all-last P [] x h = h.0
+  all-last P (y ∷ xs) x h = all-last P xs x h.1
+
   count-snoc : (p : X → Bool) (xs : List X) (x : X) → count_by p (xs ++ x ∷ []) ≡ count_by p xs + cond (p x) 1 0
   count-snoc p xs x = omega (arith, sum_by-append (λ y. cond (p y) 1 0) xs (x ∷ []))
 
   pub length-snoc : (xs : List X) (x : X) → length (xs ++ x ∷ []) ≡ length xs + 1
   length-snoc xs x = length-append xs (x ∷ [])
 
+logged-snoc : (choice : Choice) (first : Option Frame) (cs : List Carrier) (c : Carrier) → AreLogged choice first cs → IsLogged choice (first_behind first cs) c → AreLogged choice first (cs ++ c ∷ [])
+logged-snoc choice first [] c are is = (is, tt)
+logged-snoc choice first (d ∷ cs) c are is = (are.0, logged-snoc choice (first_with first d.frame d.carried) cs c are.1 is)
+
+pub first-snoc : (first : Option Frame) (cs : List Carrier) (c : Carrier) → first_behind first (cs ++ c ∷ []) ≡ first_with (first_behind first cs) c.frame c.carried
+first-snoc first [] c = refl
+first-snoc first (d ∷ cs) c = first-snoc (first_with first d.frame d.carried) cs c
+
+-- nothing is kept of no packet
+pub keeps-none : (choice : Choice) (kept : FirstOrigin) → origin_in kept ≡ None → Keeps choice None (origin_in kept)
+keeps-none OneOrigin kept e = e
+keeps-none (Of name vlans) kept e = tt
+
+pub carriers-snoc : (choice : Choice) (cs : List Carrier) (c : Carrier) → AreCarriers choice cs → IsCarrier c → IsLogged choice (first_behind None cs) c → AreCarriers choice (cs ++ c ∷ [])
+carriers-snoc choice cs c are is logged = record { carry = all-snoc IsCarrier cs c are.carry is; logged = logged-snoc choice None cs c are.logged logged }
+
 pub frames-snoc : (cs : List Carrier) (c : Carrier) → map (λ d. d.frame) (cs ++ c ∷ []) ≡ map (λ d. d.frame) cs ++ c.frame ∷ []
 frames-snoc cs c = map-append (λ d. d.frame) cs (c ∷ [])
 
 pub lines-snoc : (how : Authentication) (link : List ℕ) (cs : List Carrier) (c : Carrier) →
-    packet_lines how link (cs ++ c ∷ []) ≡ packet_lines how link cs ++ carried_line how link c.frame.bytes c.carried
+    packet_lines how link (cs ++ c ∷ []) ≡ packet_lines how link cs ++ logged_line how link c.frame.bytes c.logged
 lines-snoc how link cs c =
-    flat_map-append (λ d. carried_line how link d.frame.bytes d.carried) cs (c ∷ []) ∙ ap (λ l. packet_lines how link cs ++ l) (append-nil (carried_line how link c.frame.bytes c.carried))
+    flat_map-append (λ d. logged_line how link d.frame.bytes d.logged) cs (c ∷ []) ∙ ap (λ l. packet_lines how link cs ++ l) (append-nil (logged_line how link c.frame.bytes c.logged))
 
-pub line_count-snoc : (cs : List Carrier) (c : Carrier) → line_count (cs ++ c ∷ []) ≡ line_count cs + one (has_line c.carried)
-line_count-snoc cs c = count-snoc (λ d. has_line d.carried) cs c
+pub line_count-snoc : (cs : List Carrier) (c : Carrier) → line_count (cs ++ c ∷ []) ≡ line_count cs + one (has_line c.logged)
+line_count-snoc cs c = count-snoc (λ d. has_line d.logged) cs c
 
-pub counts-snoc : (how : Authentication) (cs : List Carrier) (c : Carrier) → counts_of how (cs ++ c ∷ []) ≡ counted (counts_of how cs) c.carried (omitted_of how c.frame.bytes c.carried)
+pub counts-snoc : (how : Authentication) (cs : List Carrier) (c : Carrier) → counts_of how (cs ++ c ∷ []) ≡ counted (counts_of how cs) c.logged (omitted_of how c.frame.bytes c.logged)
 counts-snoc how cs c = rw (
   length-snoc cs c,
-  count-snoc (λ d. is_datagram d.carried) cs c,
-  count-snoc (λ d. is_cut d.carried) cs c,
-  count-snoc (λ d. is_fragment d.carried) cs c,
-  count-snoc (λ d. is_malformed d.carried) cs c,
-  count-snoc (λ d. is_long d.carried) cs c,
-  count-snoc (λ d. (omitted_of how d.frame.bytes d.carried).password) cs c,
-  count-snoc (λ d. (omitted_of how d.frame.bytes d.carried).authentication) cs c,
-  count-snoc (λ d. is_elsewhere d.carried) cs c,
-  count-snoc (λ d. is_other d.carried) cs c,
+  count-snoc (λ d. such is_datagram d.logged) cs c,
+  count-snoc (λ d. such is_cut d.logged) cs c,
+  count-snoc (λ d. such is_fragment d.logged) cs c,
+  count-snoc (λ d. such is_malformed d.logged) cs c,
+  count-snoc (λ d. such is_long d.logged) cs c,
+  count-snoc (λ d. is_mixed d.logged) cs c,
+  count-snoc (λ d. (omitted_of how d.frame.bytes d.logged).password) cs c,
+  count-snoc (λ d. (omitted_of how d.frame.bytes d.logged).authentication) cs c,
+  count-snoc (λ d. such is_elsewhere d.logged) cs c,
+  count-snoc (λ d. such is_other d.logged) cs c,
 ) refl
 
 -- there is room for a packet more while there are fewer than the greatest number
@@ -89,6 +117,7 @@ has-room how n cs is few =
       fragments = at _;
       malformed = at _;
       long = at _;
+      mixed = at _;
       passwords = at _;
       without_authentication = at _;
       elsewhere = at _;
@@ -97,15 +126,15 @@ has-room how n cs is few =
 
 -- what a packet more does to all that was logged before
 pub adds-packet : {old mid new : Progress} (how : Authentication) (link : List ℕ) (cs : List Carrier) (p : Carrier) → Adds old mid (packet_lines how link cs)
-    → Adds mid new (carried_line how link p.frame.bytes p.carried) → Adds old new (packet_lines how link (cs ++ p ∷ []))
+    → Adds mid new (logged_line how link p.frame.bytes p.logged) → Adds old new (packet_lines how link (cs ++ p ∷ []))
 adds-packet how link cs p f g = adds_same (sym (lines-snoc how link cs p)) (adds_then f g)
 
 -- ---- how a file ends
 
-module _ {R : Type 0} (given : R → List ℕ) (at_end : R → Bool) (how : Authentication) (before : List ℕ) (lines : ℕ) (cs : List Carrier) (new : CaptureReader R) (out : Progress) where
+module _ {R : Type 0} (given : R → List ℕ) (at_end : R → Bool) (how : Authentication) (choice : Choice) (before : List ℕ) (lines : ℕ) (cs : List Carrier) (new : CaptureReader R) (out : Progress) where
   -- at an error
   pub ends-by : (code : CaptureCode) (at : ℕ) → StopsAt given at_end before (map (λ c. c.frame) cs) (record { code = code; at = at }) new →
-      EndsSo given at_end how before lines cs new out (ended_by (record { code = code; at = at }))
+      EndsSo given at_end how choice before lines cs new out (ended_by (record { code = code; at = at }))
   ends-by Magic at h = (h, refl)
   ends-by Cut at h = (h, refl)
   ends-by Version at h = (h, refl)
@@ -117,9 +146,9 @@ module _ {R : Type 0} (given : R → List ℕ) (at_end : R → Bool) (how : Auth
 
   -- at its end
   pub ends-at : (tally : Tally) → EndsHere given at_end before (map (λ c. c.frame) cs) new → tally.counts ≡ counts_of how cs → tally.lines ≡ lines + line_count cs → tally.lines ≤ 1000000
-      → EndsSo given at_end how before lines cs new out (ended_at tally (position_of new))
+      → EndsSo given at_end how choice before lines cs new out (ended_at tally (position_of new))
   ends-at tally here counts count few =
-      elim (tally.lines == 1000000) as (λ b. (tally.lines == 1000000) ≡ b → EndsSo given at_end how before lines cs new out
+      elim (tally.lines == 1000000) as (λ b. (tally.lines == 1000000) ≡ b → EndsSo given at_end how choice before lines cs new out
       (if b then RefusedFile TooManyLines (position_of new) else Whole tally)) [
         | true ↦ λ e. (sym count ∙ eqb-true tally.lines 1000000 e, inr (here, refl))
         | false ↦ λ e. (here, counts, count, omega (arith, few, eqb-false tally.lines 1000000 e))
@@ -174,67 +203,66 @@ stops-far given at_end before taken fs reader s read is_far = record {
 
 -- ---- each packet is of one kind
 
-one-kind : (c : Carried) → one (is_datagram c) + (one (is_cut c) + (one (is_fragment c) + (one (is_malformed c) + (one (is_long c) + (one (is_elsewhere c) + one (is_other c)))))) ≡ 1
-one-kind (Datagram a span) = refl
-one-kind (CutOff a) = refl
-one-kind (Fragment a) = refl
-one-kind (Malformed a) = refl
-one-kind (Long a) = refl
-one-kind Unknown = refl
-one-kind Elsewhere = refl
-one-kind Others = refl
+one-carried : (c : Carried) → one (is_datagram c) + (one (is_cut c) + (one (is_fragment c) + (one (is_malformed c) + (one (is_long c) + (one (is_elsewhere c) + one (is_other c)))))) ≡ 1
+one-carried (Datagram a span) = refl
+one-carried (CutOff a) = refl
+one-carried (Fragment a) = refl
+one-carried (Malformed a) = refl
+one-carried (Long a) = refl
+one-carried Unknown = refl
+one-carried Elsewhere = refl
+one-carried Others = refl
+
+one-kind : (l : Logged) →
+    one (such is_datagram l) + (one (such is_cut l) + (one (such is_fragment l) + (one (such is_malformed l) + (one (such is_long l) + (one (is_mixed l) + (one (such is_elsewhere l) + one (such is_other l))))))) ≡ 1
+one-kind (As c) = omega (arith, one-carried c)
+one-kind (Mixed a) = refl
 
 at-most : (b : Bool) → one b ≤ 1
 at-most true = omega arith
 at-most false = omega arith
 
-password-of-datagram : (how : Authentication) (frame : List ℕ) (c : Carried) → one (omitted_of how frame c).password ≤ one (is_datagram c)
-password-of-datagram how frame (Datagram a span) = at-most (omitted_of how frame (Datagram a span)).password
-password-of-datagram how frame (CutOff a) = omega arith
-password-of-datagram how frame (Fragment a) = omega arith
-password-of-datagram how frame (Malformed a) = omega arith
-password-of-datagram how frame (Long a) = omega arith
-password-of-datagram how frame Unknown = omega arith
-password-of-datagram how frame Elsewhere = omega arith
-password-of-datagram how frame Others = omega arith
+-- nothing is left out but of a datagram
+omitted-of-datagram : (how : Authentication) (frame : List ℕ) (part : Omitted → Bool) → part nothing_omitted ≡ false → (l : Logged) → one (part (omitted_of how frame l)) ≤ one (such is_datagram l)
+omitted-of-datagram how frame part none (As (Datagram a span)) = at-most (part (omitted_of how frame (As (Datagram a span))))
+omitted-of-datagram how frame part none (As (CutOff a)) = omega (arith, ap one none)
+omitted-of-datagram how frame part none (As (Fragment a)) = omega (arith, ap one none)
+omitted-of-datagram how frame part none (As (Malformed a)) = omega (arith, ap one none)
+omitted-of-datagram how frame part none (As (Long a)) = omega (arith, ap one none)
+omitted-of-datagram how frame part none (As Unknown) = omega (arith, ap one none)
+omitted-of-datagram how frame part none (As Elsewhere) = omega (arith, ap one none)
+omitted-of-datagram how frame part none (As Others) = omega (arith, ap one none)
+omitted-of-datagram how frame part none (Mixed a) = omega (arith, ap one none)
 
-authentication-of-datagram : (how : Authentication) (frame : List ℕ) (c : Carried) → one (omitted_of how frame c).authentication ≤ one (is_datagram c)
-authentication-of-datagram how frame (Datagram a span) = at-most (omitted_of how frame (Datagram a span)).authentication
-authentication-of-datagram how frame (CutOff a) = omega arith
-authentication-of-datagram how frame (Fragment a) = omega arith
-authentication-of-datagram how frame (Malformed a) = omega arith
-authentication-of-datagram how frame (Long a) = omega arith
-authentication-of-datagram how frame Unknown = omega arith
-authentication-of-datagram how frame Elsewhere = omega arith
-authentication-of-datagram how frame Others = omega arith
-
-none-as-sent : (frame : List ℕ) (c : Carried) → one (omitted_of AsSent frame c).authentication ≡ 0
-none-as-sent frame (Datagram a span) = refl
-none-as-sent frame (CutOff a) = refl
-none-as-sent frame (Fragment a) = refl
-none-as-sent frame (Malformed a) = refl
-none-as-sent frame (Long a) = refl
-none-as-sent frame Unknown = refl
-none-as-sent frame Elsewhere = refl
-none-as-sent frame Others = refl
+none-as-sent : (frame : List ℕ) (l : Logged) → one (omitted_of AsSent frame l).authentication ≡ 0
+none-as-sent frame (As (Datagram a span)) = refl
+none-as-sent frame (As (CutOff a)) = refl
+none-as-sent frame (As (Fragment a)) = refl
+none-as-sent frame (As (Malformed a)) = refl
+none-as-sent frame (As (Long a)) = refl
+none-as-sent frame (As Unknown) = refl
+none-as-sent frame (As Elsewhere) = refl
+none-as-sent frame (As Others) = refl
+none-as-sent frame (Mixed a) = refl
 
 counted-more : (p : Carrier → Bool) (c : Carrier) (cs : List Carrier) → count_by p (c ∷ cs) ≡ one (p c) + count_by p cs
 counted-more p c cs = sum_by-cons (λ d. cond (p d) 1 0) c cs
 
 pub kinds-sum : (cs : List Carrier) →
-    length cs ≡ count_of is_datagram cs + count_of is_cut cs + count_of is_fragment cs + count_of is_malformed cs + count_of is_long cs + count_of is_elsewhere cs + count_of is_other cs
+    length cs ≡ count_of is_datagram cs + count_of is_cut cs + count_of is_fragment cs + count_of is_malformed cs + count_of is_long cs + mixed_count cs + count_of is_elsewhere cs + count_of is_other cs
 kinds-sum [] = refl
 kinds-sum (c ∷ cs) = omega (
   arith,
   kinds-sum cs,
-  one-kind c.carried,
-  counted-more (λ d. is_datagram d.carried) c cs,
-  counted-more (λ d. is_cut d.carried) c cs,
-  counted-more (λ d. is_fragment d.carried) c cs,
-  counted-more (λ d. is_malformed d.carried) c cs,
-  counted-more (λ d. is_long d.carried) c cs,
-  counted-more (λ d. is_elsewhere d.carried) c cs,
-  counted-more (λ d. is_other d.carried) c cs,
+  one-kind c.logged,
+  counted-more (λ d. such is_datagram d.logged) c cs,
+  counted-more (λ d. such is_cut d.logged) c cs,
+  counted-more (λ d. such is_fragment d.logged) c cs,
+  counted-more (λ d. such is_malformed d.logged) c cs,
+  counted-more (λ d. such is_long d.logged) c cs,
+  counted-more (λ d. is_mixed d.logged) c cs,
+  counted-more (λ d. such is_elsewhere d.logged) c cs,
+  counted-more (λ d. such is_other d.logged) c cs,
 )
 
 pub passwords-few : (how : Authentication) (cs : List Carrier) → (counts_of how cs).passwords ≤ count_of is_datagram cs
@@ -242,9 +270,9 @@ passwords-few how [] = omega arith
 passwords-few how (c ∷ cs) = omega (
   arith,
   passwords-few how cs,
-  password-of-datagram how c.frame.bytes c.carried,
-  counted-more (λ d. (omitted_of how d.frame.bytes d.carried).password) c cs,
-  counted-more (λ d. is_datagram d.carried) c cs,
+  omitted-of-datagram how c.frame.bytes (λ o. o.password) refl c.logged,
+  counted-more (λ d. (omitted_of how d.frame.bytes d.logged).password) c cs,
+  counted-more (λ d. such is_datagram d.logged) c cs,
 )
 
 pub authentication-few : (how : Authentication) (cs : List Carrier) → (counts_of how cs).without_authentication ≤ count_of is_datagram cs
@@ -252,9 +280,9 @@ authentication-few how [] = omega arith
 authentication-few how (c ∷ cs) = omega (
   arith,
   authentication-few how cs,
-  authentication-of-datagram how c.frame.bytes c.carried,
-  counted-more (λ d. (omitted_of how d.frame.bytes d.carried).authentication) c cs,
-  counted-more (λ d. is_datagram d.carried) c cs,
+  omitted-of-datagram how c.frame.bytes (λ o. o.authentication) refl c.logged,
+  counted-more (λ d. (omitted_of how d.frame.bytes d.logged).authentication) c cs,
+  counted-more (λ d. such is_datagram d.logged) c cs,
 )
 
 pub authentication-as-sent : (cs : List Carrier) → (counts_of AsSent cs).without_authentication ≡ 0
@@ -262,6 +290,6 @@ authentication-as-sent [] = refl
 authentication-as-sent (c ∷ cs) = omega (
   arith,
   authentication-as-sent cs,
-  none-as-sent c.frame.bytes c.carried,
-  counted-more (λ d. (omitted_of AsSent d.frame.bytes d.carried).authentication) c cs,
+  none-as-sent c.frame.bytes c.logged,
+  counted-more (λ d. (omitted_of AsSent d.frame.bytes d.logged).authentication) c cs,
 )

@@ -1,7 +1,7 @@
 -- A log of capture files without a bad line is one of whole files.
 use Rattle.std.proofs.Common.{◌≡◌, ◌⊎◌, ◌+◌, ◌^◌, ◌<◌, ◌≤◌, ◌==◌, ◌∙◌, ℕ, Bool, true, false, cond, List, [], ◌∷◌, ◌++◌, Some, None, Result, Ok, Err, is_err, length, map, drop, decimal, codes, ap, sym, refl, inl, inr, subst, arith, append_assoc, append-nil}
 use Rattle.std.specs.List.{AllByRecursion}
-use Rattle.std.specs.Prelude.{◌↔◌, if◌then◌else◌, flat_map}
+use Rattle.std.specs.Prelude.{◌↔◌, if◌then◌else◌, count_by, flat_map}
 use Rattle.std.proofs.lemmas.List.Sums.{sum_by-cons}
 use Rattle.rip_wire.specs.Address.{address_in, address_text}
 use Rattle.rip_wire.specs.Name.{IsName, is_name}
@@ -14,13 +14,16 @@ use Rattle.rip_capture.specs.Captures.{CaptureFault, IsCapture}
 use Rattle.rip_capture.specs.Pcap.{Frame}
 use Rattle.rip_capture.specs.declared.packet.Carried.{Carried}
 use Rattle.rip_capture.specs.declared.packet.Carried.TheVariants.{Datagram, Cut, Fragment, Malformed, Long, Unknown, Elsewhere, Others}
-use Rattle.rip_report.specs.CaptureLogs.{BeginsWith, File, FileText, HasDatagrams, HaveDatagrams, IsFile, IsRefusedAt, LogOf, SoFar, datagram_in, is_whole, worse}
+use Rattle.rip_report.specs.CaptureLogs.{BeginsWith, File, FileText, HasDatagrams, HaveDatagrams, IsFile, IsRefusedAt, LogOf, SoFar, datagram_in, is_whole, is_whole_one, worse}
 use Rattle.rip_report.specs.CaptureLogs.BeginsWith.{none as nothing, some as something}
 use Rattle.rip_report.specs.CaptureLogs.IsRefusedAt.{fault, packet, comment}
 use Rattle.rip_report.specs.CaptureLogs.FileText.{whole, refused, unread, memory}
 use Rattle.rip_report.specs.CaptureLogs.LogOf.{all, stopped}
 use Rattle.rip_report.specs.CaptureLogs.SoFar.{none, more}
-use Rattle.rip_report.specs.CaptureText.{Carrier, IsCarrier, comment_front, comment_line, count_of, counted_status, counts_of, file_part, file_refusal_line, is_cut, is_fragment, is_long, is_malformed, lacking_part, one, other_part, packet_lines, refusal_code_text}
+use Rattle.rip_report.specs.CaptureText.{AreCarriers, comment_front, comment_line, count_of, counted_status, counts_of, file_part, file_refusal_line, is_cut, is_fragment, is_long, is_malformed, is_mixed, lacking_part, one, other_part, packet_lines, refusal_code_text, such}
+use Rattle.rip_report.specs.Selections.{Carrier, Choice, Part}
+use Rattle.rip_report.specs.declared.captures.logged.Logged.{Logged}
+use Rattle.rip_report.specs.declared.captures.logged.Logged.TheVariants.{As, Mixed}
 use Rattle.rip_report.specs.LeftOut.{count_part}
 use Rattle.rip_report.specs.Written.{line}
 use Rattle.rip_report.specs.declared.captures.authentication.Authentication.{Authentication}
@@ -33,7 +36,8 @@ use Rattle.rip_capture.proofs.ByteLemmas.{all-left, all-right}
 use Rattle.rip_report.specs.declared.status.RunError.{RunError}
 use Rattle.rip_report.specs.declared.status.Status.{Status}
 use Rattle.rip_report.specs.declared.status.Status.TheVariants.{Done, Refused}
-use Rattle.rip_report.proofs.CapturedLogLemmas.{Says, packets-say, says-more, says-none}
+use Rattle.rip_report.proofs.SelectionLemmas.{SomeOrigin, own-all, senders-logged}
+use Rattle.rip_report.proofs.CapturedLogLemmas.{HasSender, Says, packets-say, says-more, says-none}
 use Rattle.rip_report.proofs.LogLineLemmas.{Bytes, ComesTo, Reads, Spaced, all-both, bad-line, comes-to, decimal-high, decimal-some, field-first, name-high, skipped-line, spaced, tested}
 
 abbrev IsSpaced : ℕ → Type 0
@@ -77,10 +81,13 @@ lacking-spaced n =
     let fragments = counted (codes " fragments") n.fragments (tested 32 (codes " fragments") refl) in
     let malformed = counted (codes " malformed") n.malformed (tested 32 (codes " malformed") refl) in
     let long = counted (codes " long") n.long (tested 32 (codes " long") refl) in
-    both (count_part (codes ", ") n.cut (codes " cut") ++ count_part (codes ", ") n.fragments (codes " fragments") ++ count_part (codes ", ") n.malformed (codes " malformed"))
+    let mixed = counted (codes " mixed") n.mixed (tested 32 (codes " mixed") refl) in
+    both (count_part (codes ", ") n.cut (codes " cut") ++ count_part (codes ", ") n.fragments (codes " fragments") ++ count_part (codes ", ") n.malformed (codes " malformed")
+    ++ count_part (codes ", ") n.long (codes " long")) (count_part (codes ", ") n.mixed (codes " mixed"))
+    (both (count_part (codes ", ") n.cut (codes " cut") ++ count_part (codes ", ") n.fragments (codes " fragments") ++ count_part (codes ", ") n.malformed (codes " malformed"))
     (count_part (codes ", ") n.long (codes " long"))
     (both (count_part (codes ", ") n.cut (codes " cut") ++ count_part (codes ", ") n.fragments (codes " fragments")) (count_part (codes ", ") n.malformed (codes " malformed"))
-    (both (count_part (codes ", ") n.cut (codes " cut")) (count_part (codes ", ") n.fragments (codes " fragments")) cut fragments) malformed) long
+    (both (count_part (codes ", ") n.cut (codes " cut")) (count_part (codes ", ") n.fragments (codes " fragments")) cut fragments) malformed) long) mixed
 
 other-spaced : (n : PacketCounts) → Spaced (other_part n)
 unfolding other_part
@@ -157,13 +164,23 @@ failed-bad n text rest records safe bad reads = bad-line n text rest records Fie
 
 -- ---- counts
 
-none-of : (p : Carried → Bool) → ((c : Carried) → is_whole c ≡ true → p c ≡ false) → (cs : List Carrier) → AllByRecursion (λ c. is_whole c.carried ≡ true) cs → count_of p cs ≡ 0
-none-of p never [] h = refl
-none-of p never (c ∷ cs) h =
-    let here : one (p c.carried) ≡ 0 = ap one (never c.carried h.0) in
-    omega (arith, sum_by-cons (λ (d : Carrier). cond (p d.carried) 1 0) c cs, here, none-of p never cs h.1)
+none-so : (p : Logged → Bool) → ((l : Logged) → is_whole l ≡ true → p l ≡ false) → (cs : List Carrier) → AllByRecursion (λ c. is_whole c.logged ≡ true) cs → count_by (λ c. p c.logged) cs ≡ 0
+none-so p never [] h = refl
+none-so p never (c ∷ cs) h =
+    let here : one (p c.logged) ≡ 0 = ap one (never c.logged h.0) in
+    omega (arith, sum_by-cons (λ (d : Carrier). cond (p d.logged) 1 0) c cs, here, none-so p never cs h.1)
 
-not-cut : (c : Carried) → is_whole c ≡ true → is_cut c ≡ false
+none-of : (p : Carried → Bool) → ((c : Carried) → is_whole_one c ≡ true → p c ≡ false) → (cs : List Carrier) → AllByRecursion (λ c. is_whole c.logged ≡ true) cs → count_of p cs ≡ 0
+none-of p never cs h = none-so (such p) (such-never p never) cs h where
+  such-never : (p : Carried → Bool) → ((c : Carried) → is_whole_one c ≡ true → p c ≡ false) → (l : Logged) → is_whole l ≡ true → such p l ≡ false
+  such-never p never (As c) h = never c h
+  such-never p never (Mixed a) h = refl
+
+not-mixed : (l : Logged) → is_whole l ≡ true → is_mixed l ≡ false
+not-mixed (As c) h = refl
+not-mixed (Mixed a) h = cc h
+
+not-cut : (c : Carried) → is_whole_one c ≡ true → is_cut c ≡ false
 not-cut (Datagram a span) h = refl
 not-cut (Cut a) h = cc h
 not-cut (Fragment a) h = refl
@@ -173,7 +190,7 @@ not-cut Unknown h = cc h
 not-cut Elsewhere h = refl
 not-cut Others h = refl
 
-not-fragment : (c : Carried) → is_whole c ≡ true → is_fragment c ≡ false
+not-fragment : (c : Carried) → is_whole_one c ≡ true → is_fragment c ≡ false
 not-fragment (Datagram a span) h = refl
 not-fragment (Cut a) h = refl
 not-fragment (Fragment a) h = cc h
@@ -183,7 +200,7 @@ not-fragment Unknown h = refl
 not-fragment Elsewhere h = refl
 not-fragment Others h = refl
 
-not-malformed : (c : Carried) → is_whole c ≡ true → is_malformed c ≡ false
+not-malformed : (c : Carried) → is_whole_one c ≡ true → is_malformed c ≡ false
 not-malformed (Datagram a span) h = refl
 not-malformed (Cut a) h = refl
 not-malformed (Fragment a) h = refl
@@ -193,7 +210,7 @@ not-malformed Unknown h = refl
 not-malformed Elsewhere h = refl
 not-malformed Others h = refl
 
-not-long : (c : Carried) → is_whole c ≡ true → is_long c ≡ false
+not-long : (c : Carried) → is_whole_one c ≡ true → is_long c ≡ false
 not-long (Datagram a span) h = refl
 not-long (Cut a) h = refl
 not-long (Fragment a) h = refl
@@ -203,8 +220,8 @@ not-long Unknown h = refl
 not-long Elsewhere h = refl
 not-long Others h = refl
 
-pub whole-status : (how : Authentication) (cs : List Carrier) → AllByRecursion (λ c. is_whole c.carried ≡ true) cs → counted_status (counts_of how cs) ≡ Done
-whole-status how cs h = rw (none-of is_cut not-cut cs h, none-of is_fragment not-fragment cs h, none-of is_malformed not-malformed cs h, none-of is_long not-long cs h) refl
+pub whole-status : (how : Authentication) (cs : List Carrier) → AllByRecursion (λ c. is_whole c.logged ≡ true) cs → counted_status (counts_of how cs) ≡ Done
+whole-status how cs h = rw (none-of is_cut not-cut cs h, none-of is_fragment not-fragment cs h, none-of is_malformed not-malformed cs h, none-of is_long not-long cs h, none-so is_mixed not-mixed cs h) refl
 
 -- ---- files
 
@@ -226,25 +243,28 @@ of-frames (c ∷ cs) h = (h.0, of-frames cs h.1)
 abbrev IsByte : ℕ → Type 0
 IsByte b = b < 256
 
-module _ (packet_bytes : PacketBytes) where
-  refused-bytes : (lines : ℕ) (b : List ℕ) (cs : List Carrier) (code : RefusalCode) (at : ℕ) → IsRefusedAt lines b cs code at → Bytes b → AllByRecursion (λ c. Bytes c.frame.bytes) cs
-  refused-bytes lines b cs code at (fault c found carry few is) h = of-frames cs (packet_bytes.fault b (map (λ c. c.frame) cs) c at found h)
-  refused-bytes lines b cs code at (packet front bytes rest next right longer behind split has count place is) h =
+module _ (packet_bytes : PacketBytes) (origins : SomeOrigin) where
+  senders : (choice : Choice) (cs : List Carrier) → AllByRecursion (λ c. Bytes c.frame.bytes) cs → AreCarriers choice cs → AllByRecursion (λ c. HasSender c.logged) cs
+  senders choice cs bytes are = senders-logged choice None cs bytes are.carry are.logged
+
+  refused-bytes : (choice : Choice) (lines : ℕ) (b : List ℕ) (cs : List Carrier) (code : RefusalCode) (at : ℕ) → IsRefusedAt choice lines b cs code at → Bytes b → AllByRecursion (λ c. Bytes c.frame.bytes) cs
+  refused-bytes choice lines b cs code at (fault c found carry few is) h = of-frames cs (packet_bytes.fault b (map (λ c. c.frame) cs) c at found h)
+  refused-bytes choice lines b cs code at (packet front bytes rest next right longer behind split has count place is) h =
       of-frames cs (packet_bytes.right front (map (λ c. c.frame) cs) right.capture (all-left IsByte front bytes (all-left IsByte (front ++ bytes) rest (subst Bytes split h))))
-  refused-bytes lines b cs code at (comment right count place is) h = of-frames cs (packet_bytes.right b (map (λ c. c.frame) cs) right.capture h)
+  refused-bytes choice lines b cs code at (comment right count place is) h = of-frames cs (packet_bytes.right b (map (λ c. c.frame) cs) right.capture h)
 
-  refused-carry : (lines : ℕ) (b : List ℕ) (cs : List Carrier) (code : RefusalCode) (at : ℕ) → IsRefusedAt lines b cs code at → AllByRecursion IsCarrier cs
-  refused-carry lines b cs code at (fault c found carry few is) = carry
-  refused-carry lines b cs code at (packet front bytes rest next right longer behind split has count place is) = right.carry
-  refused-carry lines b cs code at (comment right count place is) = right.carry
+  refused-carry : (choice : Choice) (lines : ℕ) (b : List ℕ) (cs : List Carrier) (code : RefusalCode) (at : ℕ) → IsRefusedAt choice lines b cs code at → AreCarriers choice cs
+  refused-carry choice lines b cs code at (fault c found carry few is) = carry
+  refused-carry choice lines b cs code at (packet front bytes rest next right longer behind split has count place is) = right.are
+  refused-carry choice lines b cs code at (comment right count place is) = right.are
 
-  begun-bytes : (b : List ℕ) (cs : List Carrier) → BeginsWith b cs → Bytes b → AllByRecursion (λ c. Bytes c.frame.bytes) cs
-  begun-bytes b cs (nothing e) h = subst (AllByRecursion (λ (c : Carrier). Bytes c.frame.bytes)) (sym e) tt
-  begun-bytes b cs (something front rest split right) h = of-frames cs (packet_bytes.right front (map (λ c. c.frame) cs) right.capture (all-left IsByte front rest (subst Bytes split h)))
+  begun-bytes : (choice : Choice) (b : List ℕ) (cs : List Carrier) → BeginsWith choice b cs → Bytes b → AllByRecursion (λ c. Bytes c.frame.bytes) cs
+  begun-bytes choice b cs (nothing e) h = subst (AllByRecursion (λ (c : Carrier). Bytes c.frame.bytes)) (sym e) tt
+  begun-bytes choice b cs (something front rest split right) h = of-frames cs (packet_bytes.right front (map (λ c. c.frame) cs) right.capture (all-left IsByte front rest (subst Bytes split h)))
 
-  begun-carry : (b : List ℕ) (cs : List Carrier) → BeginsWith b cs → AllByRecursion IsCarrier cs
-  begun-carry b cs (nothing e) = subst (AllByRecursion IsCarrier) (sym e) tt
-  begun-carry b cs (something front rest split right) = right.carry
+  begun-carry : (choice : Choice) (b : List ℕ) (cs : List Carrier) → BeginsWith choice b cs → AreCarriers choice cs
+  begun-carry choice b cs (nothing e) = subst (AreCarriers choice) (sym e) (record { carry = tt; logged = tt })
+  begun-carry choice b cs (something front rest split right) = right.are
 
   module _ (names : (t : List ℕ) → (is_name t ≡ true) ↔ IsName t) (addresses : (t : List ℕ) (a : ℕ) → (address_in t ≡ Some a) ↔ ((a < 2 ^ 32) × (t ≡ address_text a))) where
     -- a file is whole, and says its datagrams
@@ -255,17 +275,19 @@ module _ (packet_bytes : PacketBytes) where
       pub says : Says rest records captures
 
     pub file-says : (how : Authentication) (n k lines : ℕ) (file : File) (text : List ℕ) (after : ℕ) (answer : Result Status RunError) (rest : List ℕ) (records : List Numbered) → IsFile file
-        → FileText how k lines file.link file.bytes text after answer → Reads n (text ++ rest) records → FileSays how file answer rest records
+        → FileText how k lines file.part file.bytes text after answer → Reads n (text ++ rest) records → FileSays how file answer rest records
     file-says how n k lines file text after answer rest records is (whole cs right count few e f) reads =
-        let link = file.link in
+        let link = file.part.link in
+        let choice = file.part.choice in
         let c = comment_line k link (counts_of how cs) in
-        let say = packets-say names addresses how n link cs (c ++ rest) records is.name right.carry (of-frames cs (packet_bytes.right file.bytes (map (λ c. c.frame) cs) right.capture is.bytes))
+        let bytes = of-frames cs (packet_bytes.right file.bytes (map (λ c. c.frame) cs) right.capture is.bytes) in
+        let say = packets-say names addresses how n link cs (c ++ rest) records is.name (senders choice cs bytes right.are) bytes
         (subst (λ l. Reads n l records) (ap (λ l. l ++ rest) e ∙ append_assoc (packet_lines how link cs) c rest) reads) in
         let says = say.says in
         record {
           done = f ∙ ap Ok (whole-status how cs say.whole);
-          captures = flat_map (λ c. datagram_in how link c.frame.bytes c.carried) cs;
-          has = record { carriers = cs; capture = right; whole = say.whole; datagrams = refl };
+          captures = flat_map (λ c. datagram_in how link c.frame.bytes c.logged) cs;
+          has = record { carriers = cs; capture = right; whole = say.whole; own = own-all origins choice None cs right.are.logged; datagrams = refl };
           says = record {
             lines = says.lines + 1;
             front = says.front;
@@ -276,15 +298,19 @@ module _ (packet_bytes : PacketBytes) where
           };
         }
     file-says how n k lines file text after answer rest records is (refused cs code at found e f) reads =
-        let link = file.link in
+        let link = file.part.link in
+        let choice = file.part.choice in
         let bad = file_refusal_line k link code at in
-        let say = packets-say names addresses how n link cs (bad ++ rest) records is.name (refused-carry lines file.bytes cs code at found) (refused-bytes lines file.bytes cs code at found is.bytes)
+        let bytes = refused-bytes choice lines file.bytes cs code at found is.bytes in
+        let say = packets-say names addresses how n link cs (bad ++ rest) records is.name (senders choice cs bytes (refused-carry choice lines file.bytes cs code at found)) bytes
         (subst (λ l. Reads n l records) (ap (λ l. l ++ rest) e ∙ append_assoc (packet_lines how link cs) bad rest) reads) in
         absurd (refusal-bad say.says.lines k link code at rest say.says.later is.name say.says.reads)
     file-says how n k lines file text after answer rest records is (unread cs begun few e f) reads =
-        let link = file.link in
+        let link = file.part.link in
+        let choice = file.part.choice in
         let bad = line (codes "failed: read") in
-        let say = packets-say names addresses how n link cs (bad ++ rest) records is.name (begun-carry file.bytes cs begun) (begun-bytes file.bytes cs begun is.bytes)
+        let bytes = begun-bytes choice file.bytes cs begun is.bytes in
+        let say = packets-say names addresses how n link cs (bad ++ rest) records is.name (senders choice cs bytes (begun-carry choice file.bytes cs begun)) bytes
         (subst (λ l. Reads n l records) (ap (λ l. l ++ rest) e ∙ append_assoc (packet_lines how link cs) bad rest) reads) in
         absurd (failed-bad say.says.lines (codes "failed: read") rest say.says.later (tested 32 (codes "failed: read") refl) refl say.says.reads)
     file-says how n k lines file text after answer rest records is (memory e f) reads =
@@ -338,7 +364,7 @@ module _ (packet_bytes : PacketBytes) where
           not-done (inr e) f = cc (e, ap is_err f)
 
     pub file-records : (how : Authentication) (k lines : ℕ) (file : File) (text : List ℕ) (after : ℕ) (answer : Result Status RunError) (records : List Numbered) → IsFile file
-        → FileText how k lines file.link file.bytes text after answer → Reads 0 text records → (answer ≡ Ok Done) × HasDatagrams how file (map (λ r. r.capture) records)
+        → FileText how k lines file.part file.bytes text after answer → Reads 0 text records → (answer ≡ Ok Done) × HasDatagrams how file (map (λ r. r.capture) records)
     file-records how k lines file text after answer records is file_text reads =
         let say = file-says how 0 k lines file text after answer [] records is file_text (subst (λ l. Reads 0 l records) (sym (append-nil text)) reads) in
         let says = say.says in
@@ -350,11 +376,11 @@ module _ (packet_bytes : PacketBytes) where
 ends-line : (front text : List ℕ) → EndsLine (front ++ line text)
 ends-line front text = inr (front ++ text, sym (append_assoc front text (10 ∷ [])))
 
-pub text-ends : (how : Authentication) (k lines : ℕ) (link b text : List ℕ) (after : ℕ) (answer : Result Status RunError) → FileText how k lines link b text after answer → EndsLine text
+pub text-ends : (how : Authentication) (k lines : ℕ) (part : Part) (b text : List ℕ) (after : ℕ) (answer : Result Status RunError) → FileText how k lines part b text after answer → EndsLine text
 unfolding file_refusal_line
-text-ends how k lines link b text after answer (whole cs right count few e f) = subst EndsLine (sym e) (ends-line (packet_lines how link cs) _)
-text-ends how k lines link b text after answer (refused cs code at found e f) =
+text-ends how k lines part b text after answer (whole cs right count few e f) = subst EndsLine (sym e) (ends-line (packet_lines how part.link cs) _)
+text-ends how k lines part b text after answer (refused cs code at found e f) =
     subst EndsLine (sym e)
-    (ends-line (packet_lines how link cs) (codes "refused: " ++ file_part k link ++ codes ": " ++ refusal_code_text code ++ codes " at " ++ decimal at))
-text-ends how k lines link b text after answer (unread cs begun few e f) = subst EndsLine (sym e) (ends-line (packet_lines how link cs) (codes "failed: read"))
-text-ends how k lines link b text after answer (memory e f) = subst EndsLine (sym e) (inr (codes "failed: memory", refl))
+    (ends-line (packet_lines how part.link cs) (codes "refused: " ++ file_part k part.link ++ codes ": " ++ refusal_code_text code ++ codes " at " ++ decimal at))
+text-ends how k lines part b text after answer (unread cs begun few e f) = subst EndsLine (sym e) (ends-line (packet_lines how part.link cs) (codes "failed: read"))
+text-ends how k lines part b text after answer (memory e f) = subst EndsLine (sym e) (inr (codes "failed: memory", refl))

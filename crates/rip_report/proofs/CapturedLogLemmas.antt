@@ -27,7 +27,10 @@ use Rattle.rip_capture.specs.declared.packet.Carried.TheVariants.{Datagram, Cut,
 use Rattle.rip_log.specs.declared.span.Span.{Span}
 use Rattle.rip_capture.proofs.ByteLemmas.{all-drop}
 use Rattle.rip_report.specs.CaptureLogs.{datagram_in, is_whole}
-use Rattle.rip_report.specs.CaptureText.{Carrier, IsCarrier, carried_line, packet_lines, sender_part}
+use Rattle.rip_report.specs.CaptureText.{carried_line, logged_line, packet_lines, sender_part}
+use Rattle.rip_report.specs.Selections.{Carrier}
+use Rattle.rip_report.specs.declared.captures.logged.Logged.{Logged}
+use Rattle.rip_report.specs.declared.captures.logged.Logged.TheVariants.{As, Mixed}
 use Rattle.rip_report.specs.LoggedDatagrams.{as_asked, logged_datagram}
 use Rattle.rip_report.specs.Written.{line}
 use Rattle.rip_report.specs.declared.captures.authentication.Authentication.{Authentication}
@@ -78,6 +81,10 @@ slice-bytes frame span h = all-take IsByte (span.to - span.from) (drop span.from
 fragment-bad : bytes_of (codes "fragment") ≡ Err Hex
 unfolding decode_pairs
 fragment-bad = refl
+
+mixed-bad : bytes_of (codes "mixed") ≡ Err Hex
+unfolding decode_pairs
+mixed-bad = refl
 
 long-bad : bytes_of (codes "long") ≡ Err Hex
 unfolding decode_pairs
@@ -196,15 +203,20 @@ says-first n rest records c first = record { lines = n + 1; front = (record { li
 ended : (n : ℕ) (text part rest : List ℕ) (records : List Numbered) → text ≡ part → Reads n (line text ++ rest) records → Reads n (part ++ 10 ∷ rest) records
 ended n text part rest records e reads = subst (λ l. Reads n l records) (append_assoc text (10 ∷ []) rest ∙ ap (λ l. l ++ 10 ∷ rest) e) reads
 
-sender-of : (t : LinkType) (frame : List ℕ) (a : ℕ) (span : Span) → Bytes frame → Carries t frame (Datagram a span) → a < 2 ^ 32
+pub sender-of : (t : LinkType) (frame : List ℕ) (a : ℕ) (span : Span) → Bytes frame → Carries t frame (Datagram a span) → a < 2 ^ 32
 sender-of t frame a span h (inl (from, holds, ip)) = subst (λ s. s < 2 ^ 32) (sym ip.0) (source-small (drop from frame) (all-drop IsByte from frame h))
 sender-of t frame a span h (inr (inl (holds, e))) = cc e
 sender-of t frame a span h (inr (inr (holds, e))) = cc e
 
+-- a datagram of which a log has a line has an address for its sender
+abbrev pub HasSender : Logged → Type 0
+HasSender (As (Datagram a span)) = a < 2 ^ 32
+HasSender other = Unit {0}
+
 -- a packet is whole, and says its datagram
-pub record PacketSays (how : Authentication) (link frame : List ℕ) (carried : Carried) (rest : List ℕ) (records : List Numbered) : Type 0 where
-  pub whole : is_whole carried ≡ true
-  pub says : Says rest records (datagram_in how link frame carried)
+pub record PacketSays (how : Authentication) (link frame : List ℕ) (logged : Logged) (rest : List ℕ) (records : List Numbered) : Type 0 where
+  pub whole : is_whole logged ≡ true
+  pub says : Says rest records (datagram_in how link frame logged)
 
 module _ (names : (t : List ℕ) → (is_name t ≡ true) ↔ IsName t) (addresses : (t : List ℕ) (a : ℕ) → (address_in t ≡ Some a) ↔ ((a < 2 ^ 32) × (t ≡ address_text a))) where
   lacking : (n : ℕ) (link : List ℕ) (a : ℕ) (word rest : List ℕ) (records : List Numbered) (code : LogCode) → IsName link → High word → 0 < length word → bytes_of word ≡ Err code
@@ -213,43 +225,43 @@ module _ (names : (t : List ℕ) → (is_name t ≡ true) ↔ IsName t) (address
       word-bad names n link (address_text a) word rest records code name (address-high a) (address-some a) high some bad
       (ended n (sender_part link a ++ word) (link ++ 32 ∷ (address_text a ++ 32 ∷ word)) rest records (sender-line link a word) reads)
 
-  pub packet-says : (how : Authentication) (n : ℕ) (link : List ℕ) (t : LinkType) (frame : List ℕ) (carried : Carried) (rest : List ℕ) (records : List Numbered) → IsName link → Bytes frame →
-      Carries t frame carried
-      → Reads n (carried_line how link frame carried ++ rest) records → PacketSays how link frame carried rest records
+  packet-says : (how : Authentication) (n : ℕ) (link : List ℕ) (frame : List ℕ) (logged : Logged) (rest : List ℕ) (records : List Numbered) → IsName link → Bytes frame → HasSender logged
+      → Reads n (logged_line how link frame logged ++ rest) records → PacketSays how link frame logged rest records
   unfolding carried_line
-  packet-says how n link t frame (Datagram a span) rest records name h carries reads =
+  packet-says how n link frame (As (Datagram a span)) rest records name h small reads =
       let d = logged_datagram how (slice_of frame span) in
-      let first = datagram-said names addresses n link a d rest records name (sender-of t frame a span h carries) (logged-bytes how (slice_of frame span) (slice-bytes frame span h))
+      let first = datagram-said names addresses n link a d rest records name small (logged-bytes how (slice_of frame span) (slice-bytes frame span h))
       (ended n (sender_part link a ++ encode_lower d) (link ++ 32 ∷ (address_text a ++ 32 ∷ encode_lower d)) rest records (sender-line link a (encode_lower d)) reads) in
       record { whole = refl; says = says-first n rest records (record { link = link; sender = a; datagram = d }) first }
-  packet-says how n link t frame (Cut a) rest records name h carries reads = absurd (lacking n link a (codes "cut") rest records Hex name (tested 33 (codes "cut") refl) (omega arith) refl reads)
-  packet-says how n link t frame (Fragment a) rest records name h carries reads =
+  packet-says how n link frame (As (Cut a)) rest records name h small reads = absurd (lacking n link a (codes "cut") rest records Hex name (tested 33 (codes "cut") refl) (omega arith) refl reads)
+  packet-says how n link frame (As (Fragment a)) rest records name h small reads =
       absurd (lacking n link a (codes "fragment") rest records Hex name (tested 33 (codes "fragment") refl) (omega arith) fragment-bad reads)
-  packet-says how n link t frame (Malformed a) rest records name h carries reads =
+  packet-says how n link frame (As (Malformed a)) rest records name h small reads =
       absurd (lacking n link a (codes "malformed") rest records Hex name (tested 33 (codes "malformed") refl) (omega arith) refl reads)
-  packet-says how n link t frame (Long a) rest records name h carries reads =
+  packet-says how n link frame (As (Long a)) rest records name h small reads =
       absurd (lacking n link a (codes "long") rest records Hex name (tested 33 (codes "long") refl) (omega arith) long-bad reads)
-  packet-says how n link t frame Unknown rest records name h carries reads =
+  packet-says how n link frame (As Unknown) rest records name h small reads =
       absurd (word-bad names n link (codes "unknown") (codes "cut") rest records Hex name (tested 33 (codes "unknown") refl) (omega arith) (tested 33 (codes "cut") refl) (omega arith) refl
       (ended n (link ++ codes " unknown cut") (link ++ 32 ∷ (codes "unknown" ++ 32 ∷ codes "cut")) rest records refl reads))
-  packet-says how n link t frame Elsewhere rest records name h carries reads = record { whole = refl; says = says-none n rest records reads }
-  packet-says how n link t frame Others rest records name h carries reads = record { whole = refl; says = says-none n rest records reads }
+  packet-says how n link frame (As Elsewhere) rest records name h small reads = record { whole = refl; says = says-none n rest records reads }
+  packet-says how n link frame (As Others) rest records name h small reads = record { whole = refl; says = says-none n rest records reads }
+  packet-says how n link frame (Mixed a) rest records name h small reads = absurd (lacking n link a (codes "mixed") rest records Hex name (tested 33 (codes "mixed") refl) (omega arith) mixed-bad reads)
 
   -- packets are whole, and say their datagrams
   pub record PacketsSay (how : Authentication) (link : List ℕ) (cs : List Carrier) (rest : List ℕ) (records : List Numbered) : Type 0 where
-    pub whole : AllByRecursion (λ c. is_whole c.carried ≡ true) cs
-    pub says : Says rest records (flat_map (λ c. datagram_in how link c.frame.bytes c.carried) cs)
+    pub whole : AllByRecursion (λ c. is_whole c.logged ≡ true) cs
+    pub says : Says rest records (flat_map (λ c. datagram_in how link c.frame.bytes c.logged) cs)
 
-  pub packets-say : (how : Authentication) (n : ℕ) (link : List ℕ) (cs : List Carrier) (rest : List ℕ) (records : List Numbered) → IsName link → AllByRecursion IsCarrier cs →
+  pub packets-say : (how : Authentication) (n : ℕ) (link : List ℕ) (cs : List Carrier) (rest : List ℕ) (records : List Numbered) → IsName link → AllByRecursion (λ c. HasSender c.logged) cs →
       AllByRecursion (λ c. Bytes c.frame.bytes) cs
       → Reads n (packet_lines how link cs ++ rest) records → PacketsSay how link cs rest records
   packets-say how n link [] rest records name carry h reads = record { whole = tt; says = says-none n rest records reads }
   packets-say how n link (c ∷ cs) rest records name carry h reads =
       let after = packet_lines how link cs ++ rest in
-      let one = packet-says how n link c.frame.link_type c.frame.bytes c.carried after records name h.0 carry.0
-      (subst (λ l. Reads n l records) (append_assoc (carried_line how link c.frame.bytes c.carried) (packet_lines how link cs) rest) reads) in
+      let one = packet-says how n link c.frame.bytes c.logged after records name h.0 carry.0
+      (subst (λ l. Reads n l records) (append_assoc (logged_line how link c.frame.bytes c.logged) (packet_lines how link cs) rest) reads) in
       let more = packets-say how one.says.lines link cs rest one.says.later name carry.1 h.1 one.says.reads in
       record {
         whole = (one.whole, more.whole);
-        says = says-more after rest records (datagram_in how link c.frame.bytes c.carried) (flat_map (λ d. datagram_in how link d.frame.bytes d.carried) cs) one.says more.says;
+        says = says-more after rest records (datagram_in how link c.frame.bytes c.logged) (flat_map (λ d. datagram_in how link d.frame.bytes d.logged) cs) one.says more.says;
       }

@@ -19,5 +19,6 @@ pub mod CaptureLemmas
 pub mod CaptureFileLemmas
 pub mod LogLineLemmas
 pub mod CapturedLogLemmas
+pub mod SelectionLemmas
 pub mod CapturedFileLemmas
 pub mod SaidFileLemmas

@@ -9,6 +9,7 @@ use Rattle.rip_report.specs.Finished.{EndsWith}
 use Rattle.rip_report.specs.CaptureLogs.{AddsFile, File, FileText, Follows, HasDatagrams, HaveDatagrams, IsFile, LogOf, SaysFiles, SoFar, answer_so_far, worse}
 use Rattle.rip_report.specs.CaptureLogs.LogOf.{all, stopped}
 use Rattle.rip_report.specs.CaptureLogs.SoFar.{none, more}
+use Rattle.rip_report.specs.Selections.{Part}
 use Rattle.rip_report.specs.Sent.{sink_state}
 use Rattle.rip_report.specs.Statuses.{fault_line_of}
 use Rattle.rip_report.specs.Written.{line}
@@ -27,9 +28,9 @@ captures_of records = map (λ r. r.capture) records
 
 -- what the laws say of the text of a file, and of a log of two texts
 pub record FileLaws : Type 0 where
-  pub ends : (how : Authentication) (number lines after : ℕ) (link bytes text : List ℕ) (answer : Result Status RunError) → FileText how number lines link bytes text after answer → EndsLine text
+  pub ends : (how : Authentication) (number lines after : ℕ) (part : Part) (bytes text : List ℕ) (answer : Result Status RunError) → FileText how number lines part bytes text after answer → EndsLine text
   pub says : (how : Authentication) (number lines after : ℕ) (file : File) (text : List ℕ) (answer : Result Status RunError) (records : List Numbered) → IsFile file →
-      FileText how number lines file.link file.bytes text after answer → LogText text records → (answer ≡ Ok Done) × HasDatagrams how file (captures_of records)
+      FileText how number lines file.part file.bytes text after answer → LogText text records → (answer ≡ Ok Done) × HasDatagrams how file (captures_of records)
   pub two : (text more : List ℕ) (records : List Numbered) → EndsLine text → LogText (text ++ more) records → (first second : List Numbered) × LogText text first × LogText more second
       × (captures_of records ≡ captures_of first ++ captures_of second)
 
@@ -43,10 +44,10 @@ ok-of s t e = cc e
 module _ (laws : FileLaws) where
   -- one file more
   one-more : (how : Authentication) (files : List File) (file : File) (text part : List ℕ) (number lines after : ℕ) (before : Status) (answer so_far : Result Status RunError)
-      → SaysFiles how files text (Ok before) → FileText how number lines file.link file.bytes part after answer → (answer ≡ Ok Done → before ≡ Done → so_far ≡ Ok Done)
+      → SaysFiles how files text (Ok before) → FileText how number lines file.part file.bytes part after answer → (answer ≡ Ok Done → before ≡ Done → so_far ≡ Ok Done)
       → SaysFiles how (files ++ file ∷ []) (text ++ part) so_far
   one-more how files file text part number lines after before answer so_far s is then = record {
-    ends = ends-both text part s.ends (laws.ends how number lines after file.link file.bytes part answer is);
+    ends = ends-both text part s.ends (laws.ends how number lines after file.part file.bytes part answer is);
     says = λ are records log.
         let (first, second, one, other, same) = laws.two text part records s.ends log in
         let front = s.says (all-left IsFile files (file ∷ []) are) first one in
@@ -63,16 +64,16 @@ module _ (laws : FileLaws) where
   still-done before after lines (Ok Unsettled) follows e d = absurd (cc e)
   still-done before after lines (Err f) follows e d = e
 
-  pub says-goes-on : {K : Type 0} (taken : K → Taken) (broken : K → Bool) (old new : K) (before after : CaptureLog) (link bytes : List ℕ) (answer : Result Status RunError) →
-      AddsFile taken broken old new before after link bytes answer
+  pub says-goes-on : {K : Type 0} (taken : K → Taken) (broken : K → Bool) (old new : K) (before after : CaptureLog) (owner : Part) (bytes : List ℕ) (answer : Result Status RunError) →
+      AddsFile taken broken old new before after owner bytes answer
       → (files : List File) (text : List ℕ) → SaysFiles before.authentication files text (Ok before.status) → answer ≢ Err Write
       → (part : List ℕ) × Took (taken old) (taken new) part
-      × SaysFiles before.authentication (files ++ record { link = link; bytes = bytes } ∷ []) (text ++ part) (answer_so_far after answer)
-  says-goes-on taken broken old new before after link bytes answer adds files text says wrote =
+      × SaysFiles before.authentication (files ++ record { part = owner; bytes = bytes } ∷ []) (text ++ part) (answer_so_far after answer)
+  says-goes-on taken broken old new before after owner bytes answer adds files text says wrote =
       let out = adds.text wrote in (
         out.0,
         out.3,
-        one-more before.authentication files (record { link = link; bytes = bytes }) text out.0 (before.files + 1) before.lines out.1 before.status answer (answer_so_far after answer) says out.2
+        one-more before.authentication files (record { part = owner; bytes = bytes }) text out.0 (before.files + 1) before.lines out.1 before.status answer (answer_so_far after answer) says out.2
             (still-done before after out.1 answer out.4),
       )
 
@@ -84,7 +85,7 @@ module _ (laws : FileLaws) where
       let out = ends.out wrote in (
         line (fault_line_of error),
         out.1,
-        one-more how files file text (line (fault_line_of error)) 1 0 0 status (Err error) result says (failed-text error good how 1 0 file.link file.bytes (omega arith))
+        one-more how files file text (line (fault_line_of error)) 1 0 0 status (Err error) result says (failed-text error good how 1 0 file.part file.bytes (omega arith))
             (λ e d. out.0 ∙ e),
       )
 

@@ -1,5 +1,5 @@
 -- What a log of capture files is, and what a run leaves that adds a file to one.
-use Rattle.std.specs.Prelude.{◌≡◌, ◌≢◌, ◌⊎◌, ℕ, ◌+◌, ◌^◌, ◌<◌, ◌≤◌, Bool, true, false, List, [], ◌∷◌, ◌++◌, length, map, flat_map, codes, Result, Ok, Err, is_err}
+use Rattle.std.specs.Prelude.{◌≡◌, ◌≢◌, ◌⊎◌, ℕ, ◌+◌, ◌^◌, ◌<◌, ◌≤◌, Bool, true, false, List, [], ◌∷◌, ◌++◌, length, map, flat_map, codes, Option, Some, None, Result, Ok, Err, is_err}
 use Rattle.std.specs.List.{AllByRecursion}
 use Rattle.rip_wire.specs.Name.{IsName}
 use Rattle.rip_log.specs.Lines.{Capture as Captured}
@@ -8,12 +8,16 @@ use Rattle.rip_log.specs.Logs.{Numbered}
 use Rattle.rip_log.specs.Taken.{Taken, Took}
 use Rattle.rip_log.specs.declared.limits.TheConstants.{MOST_LINES}
 use Rattle.rip_capture.specs.Captures.{CaptureFault, HasNoMore, IsNext}
+use Rattle.rip_capture.specs.Pcap.{Frame}
 use Rattle.rip_log.specs.Spans.{slice_of}
 use Rattle.rip_capture.specs.declared.error.CaptureCode.{CaptureCode}
 use Rattle.rip_capture.specs.declared.packet.Carried.{Carried}
 use Rattle.rip_capture.specs.declared.packet.Carried.TheVariants.{Datagram, Elsewhere, Others}
-use Rattle.rip_report.specs.CaptureText.{Carrier, IsCaptureOf, IsCarrier, comment_line, counted_status, counts_of, file_refusal_line, has_line, line_count, packet_lines}
+use Rattle.rip_report.specs.CaptureText.{AreCarriers, IsCaptureOf, comment_line, counted_status, counts_of, file_refusal_line, has_line, is_datagram, line_count, packet_lines, such}
+use Rattle.rip_report.specs.Selections.{Carrier, Choice, HaveOneOrigin, OfInterface, OfVlans, OneOrigin, Of, Part, first_behind}
 use Rattle.rip_report.specs.LoggedDatagrams.{logged_datagram}
+use Rattle.rip_report.specs.declared.captures.logged.Logged.{Logged}
+use Rattle.rip_report.specs.declared.captures.logged.Logged.TheVariants.{As}
 use Rattle.rip_report.specs.Sent.{Began}
 use Rattle.rip_report.specs.Written.{line}
 use Rattle.rip_report.specs.declared.captures.authentication.Authentication.{Authentication}
@@ -46,55 +50,56 @@ status_of log = log.status
 -- ---- a file
 
 -- a beginning of these bytes is a capture of these packets, or there are none
-pub data BeginsWith (b : List ℕ) (carriers : List Carrier) : Type 0 where
-  none : carriers ≡ [] → BeginsWith b carriers
-  some : (front rest : List ℕ) → b ≡ front ++ rest → IsCaptureOf front carriers →
-      BeginsWith b carriers
+pub data BeginsWith (choice : Choice) (b : List ℕ) (carriers : List Carrier) : Type 0 where
+  none : carriers ≡ [] → BeginsWith choice b carriers
+  some : (front rest : List ℕ) → b ≡ front ++ rest → IsCaptureOf choice front carriers →
+      BeginsWith choice b carriers
 
 -- a file is refused behind these packets, of a log of so many lines: by its first fault, or where
 -- the line of the next packet, or the comment, would be one too many
-pub data IsRefusedAt (lines : ℕ) (b : List ℕ) (carriers : List Carrier) (code : RefusalCode)
-    (at : ℕ) : Type 0 where
+pub data IsRefusedAt (choice : Choice) (lines : ℕ) (b : List ℕ) (carriers : List Carrier)
+    (code : RefusalCode) (at : ℕ) : Type 0 where
   fault : (fault : CaptureCode) → CaptureFault b (map (λ c. c.frame) carriers) fault at →
-      AllByRecursion IsCarrier carriers → lines + line_count carriers ≤ MOST_LINES →
-      code ≡ Capture fault → IsRefusedAt lines b carriers code at
-  packet : (front more rest : List ℕ) (next : Carrier) → IsCaptureOf front carriers →
-      IsCaptureOf (front ++ more) (carriers ++ next ∷ []) →
+      AreCarriers choice carriers → lines + line_count carriers ≤ MOST_LINES →
+      code ≡ Capture fault → IsRefusedAt choice lines b carriers code at
+  packet : (front more rest : List ℕ) (next : Carrier) → IsCaptureOf choice front carriers →
+      IsCaptureOf choice (front ++ more) (carriers ++ next ∷ []) →
       IsNext front more (map (λ c. c.frame) carriers) →
       b ≡ (front ++ more) ++ rest →
-      has_line next.carried ≡ true → lines + line_count carriers ≡ MOST_LINES → at ≡ length front →
-      code ≡ TooManyLines → IsRefusedAt lines b carriers code at
-  comment : IsCaptureOf b carriers → lines + line_count carriers ≡ MOST_LINES → at ≡ length b →
-      code ≡ TooManyLines → IsRefusedAt lines b carriers code at
+      has_line next.logged ≡ true → lines + line_count carriers ≡ MOST_LINES → at ≡ length front →
+      code ≡ TooManyLines → IsRefusedAt choice lines b carriers code at
+  comment : IsCaptureOf choice b carriers → lines + line_count carriers ≡ MOST_LINES → at ≡ length b →
+      code ≡ TooManyLines → IsRefusedAt choice lines b carriers code at
 
 -- what a log has of the file of this number, behind so many lines, and, where the file is whole,
 -- how many lines it then has
-pub data FileText (how : Authentication) (number lines : ℕ) (link b text : List ℕ) (after : ℕ)
-    (answer : Result Status RunError) : Type 0 where
-  whole : (carriers : List Carrier) → IsCaptureOf b carriers →
+pub data FileText (how : Authentication) (number lines : ℕ) (part : Part) (b text : List ℕ)
+    (after : ℕ) (answer : Result Status RunError) : Type 0 where
+  whole : (carriers : List Carrier) → IsCaptureOf part.choice b carriers →
       after ≡ lines + line_count carriers + 1 → after ≤ MOST_LINES →
-      text ≡ packet_lines how link carriers ++ comment_line number link (counts_of how carriers) →
+      text ≡ packet_lines how part.link carriers
+          ++ comment_line number part.link (counts_of how carriers) →
       answer ≡ Ok (counted_status (counts_of how carriers)) →
-      FileText how number lines link b text after answer
+      FileText how number lines part b text after answer
   refused : (carriers : List Carrier) (code : RefusalCode) (at : ℕ) →
-      IsRefusedAt lines b carriers code at →
-      text ≡ packet_lines how link carriers ++ file_refusal_line number link code at →
-      answer ≡ Ok Refused → FileText how number lines link b text after answer
-  unread : (carriers : List Carrier) → BeginsWith b carriers →
+      IsRefusedAt part.choice lines b carriers code at →
+      text ≡ packet_lines how part.link carriers ++ file_refusal_line number part.link code at →
+      answer ≡ Ok Refused → FileText how number lines part b text after answer
+  unread : (carriers : List Carrier) → BeginsWith part.choice b carriers →
       lines + line_count carriers ≤ MOST_LINES →
-      text ≡ packet_lines how link carriers ++ line (codes "failed: read") →
-      answer ≡ Err Read → FileText how number lines link b text after answer
+      text ≡ packet_lines how part.link carriers ++ line (codes "failed: read") →
+      answer ≡ Err Read → FileText how number lines part b text after answer
   memory : text ≡ line (codes "failed: memory") → answer ≡ Err Memory →
-      FileText how number lines link b text after answer
+      FileText how number lines part b text after answer
 
 -- what was to go out of a file where the sink failed: its text, or the lines of its first packets
-pub data FileFront (how : Authentication) (number lines : ℕ) (link b text : List ℕ)
+pub data FileFront (how : Authentication) (number lines : ℕ) (part : Part) (b text : List ℕ)
     : Type 0 where
   text : (after : ℕ) (answer : Result Status RunError) →
-      FileText how number lines link b text after answer → FileFront how number lines link b text
-  packets : (carriers : List Carrier) → BeginsWith b carriers →
-      lines + line_count carriers ≤ MOST_LINES → text ≡ packet_lines how link carriers →
-      FileFront how number lines link b text
+      FileText how number lines part b text after answer → FileFront how number lines part b text
+  packets : (carriers : List Carrier) → BeginsWith part.choice b carriers →
+      lines + line_count carriers ≤ MOST_LINES → text ≡ packet_lines how part.link carriers →
+      FileFront how number lines part b text
 
 -- Done where both are Done
 abbrev pub worse : Status → Status → Status
@@ -117,20 +122,21 @@ pub record AddsFile
     (broken : K → Bool)
     (old new : K)
     (before after : CaptureLog)
-    (link b : List ℕ)
+    (part : Part)
+    (b : List ℕ)
     (answer : Result Status RunError)
     : Type 0 where
   -- the text of the file went out, and nothing else
   pub text : answer ≢ Err Write →
       (text : List ℕ) × (lines : ℕ)
-      × FileText (authentication_of before) (files_of before + 1) (lines_of before) link b text
+      × FileText (authentication_of before) (files_of before + 1) (lines_of before) part b text
       lines answer
       × Took (taken old) (taken new) text × Follows before after lines answer
   -- the sink has failed, and a beginning went out
   pub write : answer ≡ Err Write →
       (broken new ≡ true)
       × ((text : List ℕ)
-      × FileFront (authentication_of before) (files_of before + 1) (lines_of before) link b text
+      × FileFront (authentication_of before) (files_of before + 1) (lines_of before) part b text
       × Began (taken old) (taken new) text)
   -- every other answer leaves the sink's mark as it was
   pub sink : answer ≢ Err Write → broken new ≡ broken old
@@ -141,18 +147,18 @@ pub record AddsFile
 -- that is whole in them went out, unless they are too long for their offsets, and that the source
 -- failed
 pub record AddsUnread {K : Type 0} (taken : K → Taken) (old new : K) (how : Authentication)
-    (link b : List ℕ) : Type 0 where
+    (part : Part) (b : List ℕ) : Type 0 where
   pub carriers : List Carrier
-  pub begins : BeginsWith b carriers
+  pub begins : BeginsWith part.choice b carriers
   pub all : HasNoMore b (map (λ c. c.frame) carriers) ⊎ (2 ^ 64 ≤ length b + 2 ^ 32)
   pub text : Took (taken old) (taken new)
-      (packet_lines how link carriers ++ line (codes "failed: read"))
+      (packet_lines how part.link carriers ++ line (codes "failed: read"))
 
 -- ---- a log of files
 
--- a capture file: its link, and its bytes
+-- a capture file: its link, which of its packets are that link's, and its bytes
 pub record File : Type 0 where
-  pub link : List ℕ
+  pub part : Part
   pub bytes : List ℕ
 
 -- the log of these files, each of which is a capture: its text, how many lines it has, and its
@@ -161,7 +167,7 @@ pub data SoFar (how : Authentication) : List File → List ℕ → ℕ → Statu
   none : SoFar how [] [] 0 Done
   more : (files : List File) (file : File) (text part : List ℕ) (lines after : ℕ)
       (before status : Status) → SoFar how files text lines before → status ≢ Refused →
-      FileText how (length files + 1) lines file.link file.bytes part after (Ok status) →
+      FileText how (length files + 1) lines file.part file.bytes part after (Ok status) →
       SoFar how (files ++ file ∷ []) (text ++ part) after (worse before status)
 
 -- the log of these files: of all, or up to one that is refused or could not be read
@@ -171,7 +177,7 @@ pub data LogOf (how : Authentication) (files : List File) (text : List ℕ)
       LogOf how files text answer
   stopped : (before after : List File) (file : File) (front part : List ℕ) (lines more : ℕ)
       (status : Status) → SoFar how before front lines status →
-      FileText how (length before + 1) lines file.link file.bytes part more answer →
+      FileText how (length before + 1) lines file.part file.bytes part more answer →
       (answer ≡ Ok Refused) ⊎ (is_err answer ≡ true) →
       files ≡ before ++ file ∷ after → text ≡ front ++ part → LogOf how files text answer
 
@@ -189,16 +195,20 @@ GoesOn log files out (Err e) = LogOf (authentication_of log) files out (Err e)
 -- ---- the datagrams of files
 
 -- this is a whole datagram, or none to 224.0.0.9
-abbrev pub is_whole : Carried → Bool
-is_whole (Datagram sender span) = true
-is_whole Elsewhere = true
-is_whole Others = true
-is_whole _ = false
+abbrev pub is_whole_one : Carried → Bool
+is_whole_one (Datagram sender span) = true
+is_whole_one Elsewhere = true
+is_whole_one Others = true
+is_whole_one _ = false
 
--- the datagram that a frame carries, with zeros for a password, and without its authentication
+-- the same of what a log has
+abbrev pub is_whole : Logged → Bool
+is_whole logged = such is_whole_one logged
+
+-- the datagram that a log has of a frame, with zeros for a password, and without its authentication
 -- where that was asked for, as a record of a log has it
-abbrev pub datagram_in : Authentication → List ℕ → List ℕ → Carried → List Captured
-datagram_in how link frame (Datagram sender span) = (record {
+abbrev pub datagram_in : Authentication → List ℕ → List ℕ → Logged → List Captured
+datagram_in how link frame (As (Datagram sender span)) = (record {
   link = link;
   sender = sender;
   datagram = logged_datagram how (slice_of frame span);
@@ -207,17 +217,27 @@ datagram_in how link frame _ = []
 
 -- the name of its link is one, and its bytes are bytes
 pub record IsFile (file : File) : Type 0 where
-  pub name : IsName file.link
+  pub name : IsName file.part.link
   pub bytes : AllByRecursion (λ b. b < 256) file.bytes
 
--- a file is a capture, each datagram to 224.0.0.9 is there whole, and these are they, in order
+-- a packet is its link's: of the interface and the VLANs that are asked for, or from where the
+-- first packet of its file comes whose sender is known
+abbrev pub IsOwn : Choice → Option Frame → Frame → Type 0
+IsOwn OneOrigin None p = ⊥
+IsOwn OneOrigin (Some first) p = HaveOneOrigin first p
+IsOwn (Of name vlans) first p = OfInterface name p × OfVlans vlans p
+
+-- a file is a capture, each datagram of its link to 224.0.0.9 is there whole, and these are they,
+-- in order
 pub record HasDatagrams (how : Authentication) (file : File) (captures : List Captured)
     : Type 0 where
   pub carriers : List Carrier
-  pub capture : IsCaptureOf file.bytes carriers
-  pub whole : AllByRecursion (λ c. is_whole c.carried ≡ true) carriers
+  pub capture : IsCaptureOf file.part.choice file.bytes carriers
+  pub whole : AllByRecursion (λ c. is_whole c.logged ≡ true) carriers
+  pub own : AllByRecursion (λ c. such is_datagram c.logged ≡ true →
+      IsOwn file.part.choice (first_behind None carriers) c.frame) carriers
   pub datagrams : captures
-      ≡ flat_map (λ c. datagram_in how file.link c.frame.bytes c.carried) carriers
+      ≡ flat_map (λ c. datagram_in how file.part.link c.frame.bytes c.logged) carriers
 
 -- the same of files, one after the other
 abbrev pub HaveDatagrams : Authentication → List File → List Captured → Type 0

@@ -1,5 +1,5 @@
 -- What the parts of a run leave that adds a file to a log.
-use Rattle.std.specs.Prelude.{◌≡◌, ◌≢◌, ◌⊎◌, ℕ, ◌+◌, ◌<◌, ◌≤◌, ◌++◌, ◌∷◌, [], ◌==◌, if◌then◌else◌, Bool, true, false, List, map, codes, Option, Result, Ok, Err}
+use Rattle.std.specs.Prelude.{◌≡◌, ◌≢◌, ◌⊎◌, ℕ, ◌+◌, ◌<◌, ◌≤◌, ◌++◌, ◌∷◌, [], ◌==◌, if◌then◌else◌, Bool, true, false, List, map, codes, Option, Some, None, Result, Ok, Err}
 use Rattle.std.specs.List.{AllByRecursion}
 use Rattle.rip_log.specs.declared.limits.TheConstants.{MOST_LINES}
 use Rattle.rip_log.specs.Wholes.{Went}
@@ -10,7 +10,9 @@ use Rattle.rip_capture.specs.Pcap.{Frame}
 use Rattle.rip_capture.specs.declared.error.CaptureError.{CaptureError}
 use Rattle.rip_capture.specs.declared.packet.Carried.{Carried}
 use Rattle.rip_capture.specs.declared.reader.CaptureReader.{CaptureReader}
-use Rattle.rip_report.specs.CaptureText.{Carrier, IsCarrier, carried_line, comment_line, counted, counted_status, counts_of, file_refusal_line, has_line, line_count, omitted_of, one, packet_lines}
+use Rattle.rip_report.specs.CaptureText.{AreCarriers, comment_line, counted, counted_status, counts_of, file_refusal_line, has_line, line_count, logged_line, omitted_of, one, packet_lines}
+use Rattle.rip_report.specs.Selections.{Carrier, Choice, IsCarrier, IsLogged, Of, OneOrigin, Part, first_with}
+use Rattle.rip_capture.specs.Origins.{IsOrigin, Origin}
 use Rattle.rip_report.specs.CaptureLogs.{Follows}
 use Rattle.rip_report.specs.Finished.{EndsWith}
 use Rattle.rip_log.specs.Taken.{Taken}
@@ -28,35 +30,44 @@ use Rattle.rip_report.specs.declared.status.RunError.TheVariants.{Read, Write}
 use Rattle.rip_report.specs.declared.status.Status.{Status}
 use Rattle.rip_report.specs.declared.status.Status.TheVariants.{Refused as RefusedFile}
 
--- a packet was counted, which carries this, and its line added
-pub record CountsPacket (how : Authentication) (link : List ℕ) (frame : Frame) (carried : Carried)
-    (old new : Tally) (before after : Progress) : Type 0 where
-  pub counts : new.counts ≡ counted old.counts carried (omitted_of how frame.bytes carried)
-  pub lines : new.lines ≡ old.lines + one (has_line carried)
+-- what is kept of the first packet whose sender is known, where it is asked for
+abbrev pub Keeps : Choice → Option Frame → Option Origin → Type 0
+Keeps OneOrigin None kept = kept ≡ None
+Keeps OneOrigin (Some first) kept = (origin : Origin) × (kept ≡ Some origin) × IsOrigin first origin
+Keeps (Of name vlans) first kept = Unit {0}
+
+-- a packet was counted, of which a log has this, and its line added
+pub record CountsPacket (how : Authentication) (link : List ℕ) (c : Carrier) (old new : Tally)
+    (before after : Progress) : Type 0 where
+  pub counts : new.counts
+      ≡ counted old.counts c.logged (omitted_of how c.frame.bytes c.logged)
+  pub lines : new.lines ≡ old.lines + one (has_line c.logged)
   pub few : new.lines ≤ MOST_LINES
-  pub adds : Adds before after (carried_line how link frame.bytes carried)
+  pub adds : Adds before after (logged_line how link c.frame.bytes c.logged)
 
 -- there was no room for the line of a packet, and nothing was added
-pub record LacksRoom (carried : Carried) (old new : Tally) (before after : Progress)
-    : Type 0 where
-  pub line : has_line carried ≡ true
+pub record LacksRoom (c : Carrier) (old new : Tally) (before after : Progress) : Type 0 where
+  pub line : has_line c.logged ≡ true
   pub many : old.lines ≡ MOST_LINES
   pub tally : new ≡ old
   pub text : after ≡ before
 
 -- what logging a packet leaves: where it answers true, the packet was counted
-abbrev pub LogsSo : Authentication → List ℕ → Frame → Carried → Tally → Tally → Progress → Progress
-    → Bool → Type 0
-LogsSo how link frame carried old new before after true =
-    CountsPacket how link frame carried old new before after
-LogsSo how link frame carried old new before after false = LacksRoom carried old new before after
+abbrev pub LogsSo : Authentication → List ℕ → Carrier → Tally → Tally → Progress → Progress →
+    Bool → Type 0
+LogsSo how link c old new before after true = CountsPacket how link c old new before after
+LogsSo how link c old new before after false = LacksRoom c old new before after
 
--- what logging a packet leaves, and answers
-pub record LogsPacket (how : Authentication) (link : List ℕ) (frame : Frame) (old new : Tally)
-    (before after : Progress) (result : Bool) : Type 0 where
-  pub carried : Carried
-  pub carries : Carries frame.link_type frame.bytes carried
-  pub logs : LogsSo how link frame carried old new before after result
+-- what logging a packet leaves, and answers, where that is the first one whose sender is known
+pub record LogsPacket (how : Authentication) (part : Part) (first : Option Frame) (frame : Frame)
+    (kept : Option Origin) (old new : Tally) (before after : Progress) (result : Bool)
+    : Type 0 where
+  pub carrier : Carrier
+  pub frame_is : carrier.frame ≡ frame
+  pub carries : IsCarrier carrier
+  pub logged : IsLogged part.choice first carrier
+  pub keeps : Keeps part.choice (first_with first carrier.frame carrier.carried) kept
+  pub logs : LogsSo how part.link carrier old new before after result
 
 -- how the reading of a file ends at an error
 abbrev pub ended_by : CaptureError → Ending
@@ -67,25 +78,25 @@ abbrev pub ended_at : Tally → ℕ → Ending
 ended_at tally at = if tally.lines == MOST_LINES then Refused TooManyLines at else Whole tally
 
 -- how the reading of a file ends, behind these packets
-abbrev pub EndsSo : {R : Type 0} → (R → List ℕ) → (R → Bool) → Authentication → List ℕ → ℕ →
-    List Carrier → CaptureReader R → Progress → Ending → Type 0
-EndsSo given at_end how before lines carriers new text (Whole tally) =
+abbrev pub EndsSo : {R : Type 0} → (R → List ℕ) → (R → Bool) → Authentication → Choice → List ℕ →
+    ℕ → List Carrier → CaptureReader R → Progress → Ending → Type 0
+EndsSo given at_end how choice before lines carriers new text (Whole tally) =
     EndsHere given at_end before (map (λ c. c.frame) carriers) new
     × (tally.counts ≡ counts_of how carriers) × (tally.lines ≡ lines + line_count carriers)
     × (tally.lines < MOST_LINES)
-EndsSo given at_end how before lines carriers new text (Refused (Capture code) at) =
+EndsSo given at_end how choice before lines carriers new text (Refused (Capture code) at) =
     StopsAt given at_end before (map (λ c. c.frame) carriers) (record { code = code; at = at }) new
     × (is_read code ≡ false)
-EndsSo given at_end how before lines carriers new text (Refused TooManyLines at) =
+EndsSo given at_end how choice before lines carriers new text (Refused TooManyLines at) =
     (lines + line_count carriers ≡ MOST_LINES)
-    × (((next : Carrier) × IsCarrier next
+    × (((next : Carrier) × AreCarriers choice (carriers ++ next ∷ [])
     × TakesPacket given before (map (λ c. c.frame) carriers) next.frame at new
-    × (has_line next.carried ≡ true))
+    × (has_line next.logged ≡ true))
     ⊎ (EndsHere given at_end before (map (λ c. c.frame) carriers) new × (at ≡ position_of new)))
-EndsSo given at_end how before lines carriers new text Unread =
+EndsSo given at_end how choice before lines carriers new text Unread =
     (error : CaptureError) × StopsAt given at_end before (map (λ c. c.frame) carriers) error new
     × (is_read error.code ≡ true)
-EndsSo given at_end how before lines carriers new text Unwritten =
+EndsSo given at_end how choice before lines carriers new text Unwritten =
     (text.failed ≡ true)
     × ((taken : List ℕ) × Stands given before new taken (map (λ c. c.frame) carriers))
 
@@ -99,20 +110,22 @@ pub record FailsAtLast {K : Type 0} (taken : K → Taken) (failed : K → Bool) 
 
 -- what logging the packets of a file leaves, and answers
 pub record LogsPackets {K R : Type 0} (taken : K → Taken) (failed : K → Bool)
-    (given : R → List ℕ) (coming : R → Option (List ℕ)) (broken at_end : R → Bool) (how : Authentication) (link : List ℕ) (lines : ℕ)
-    (old new : CaptureReader R) (before after : Progress) (ending : Ending) : Type 0 where
+    (given : R → List ℕ) (coming : R → Option (List ℕ)) (broken at_end : R → Bool)
+    (how : Authentication) (part : Part) (lines : ℕ) (old new : CaptureReader R)
+    (before after : Progress) (ending : Ending) : Type 0 where
   pub carriers : List Carrier
-  pub carry : AllByRecursion IsCarrier carriers
+  pub are : AreCarriers part.choice carriers
   pub few : lines + line_count carriers ≤ MOST_LINES
-  pub adds : Adds before after (packet_lines how link carriers)
-  pub ends : EndsSo given at_end how (given (source_of old)) lines carriers new after ending
+  pub adds : Adds before after (packet_lines how part.link carriers)
+  pub ends : EndsSo given at_end how part.choice (given (source_of old)) lines carriers new after
+      ending
   pub went : Went given coming at_end (source_of old) (source_of new)
   pub unread : ending ≡ Unread → (broken (source_of new) ≡ true) ⊎ IsFar new
   pub marks : ending ≢ Unread → broken (source_of new) ≡ broken (source_of old)
   -- where the sink fails, the reading ends at the packet whose line it failed at
   pub stops : before.failed ≡ false → IsOnItsWay taken failed before.start before.text →
       after.failed ≡ true →
-      (ending ≡ Unwritten) × FailsAtLast taken failed how link carriers before
+      (ending ≡ Unwritten) × FailsAtLast taken failed how part.link carriers before
 
 -- ---- the end of a run
 

@@ -1,39 +1,37 @@
 -- The lines that `log` prints of the packets of a capture file.
-use Rattle.std.specs.Prelude.{ℕ, ◌+◌, ◌<◌, ◌≤◌, ◌^◌, ◌==◌, ◌&&◌, if◌then◌else◌, Bool, true, false, List, [], ◌++◌, length, map, count_by, flat_map, codes, decimal}
+use Rattle.std.specs.Prelude.{ℕ, ◌+◌, ◌<◌, ◌≤◌, ◌^◌, ◌==◌, ◌&&◌, ◌||◌, if◌then◌else◌, Bool, true, false, List, [], ◌++◌, length, map, count_by, flat_map, codes, decimal, None}
 use Rattle.std.specs.List.{AllByRecursion}
 use Rattle.hex.specs.Hex.{encode_lower}
 use Rattle.rip_wire.specs.Address.{address_text}
 use Rattle.rip_capture.specs.Captures.{IsCapture}
-use Rattle.rip_capture.specs.Carries.{Carries}
-use Rattle.rip_capture.specs.Pcap.{Frame}
+use Rattle.rip_capture.specs.Carries.{LiesWithin}
 use Rattle.rip_log.specs.Spans.{slice_of}
 use Rattle.rip_capture.specs.declared.error.CaptureCode.TheVariants as capture
 use Rattle.rip_capture.specs.declared.packet.Carried.{Carried}
 use Rattle.rip_capture.specs.declared.packet.Carried.TheVariants.{Datagram, Cut, Fragment, Malformed, Long, Unknown, Elsewhere, Others}
 use Rattle.rip_report.specs.LeftOut.{count_part}
+use Rattle.rip_report.specs.Selections.{AreLogged, Carrier, Choice, IsCarrier}
 use Rattle.rip_report.specs.LoggedDatagrams.{logged_datagram, nothing_omitted, omitted_from}
 use Rattle.rip_report.specs.Written.{line}
 use Rattle.rip_report.specs.declared.captures.authentication.Authentication.{Authentication}
 use Rattle.rip_report.specs.declared.captures.authentication.Omitted.{Omitted}
 use Rattle.rip_report.specs.declared.captures.counts.PacketCounts.{PacketCounts}
+use Rattle.rip_report.specs.declared.captures.logged.Logged.{Logged}
+use Rattle.rip_report.specs.declared.captures.logged.Logged.TheVariants.{As, Mixed}
 use Rattle.rip_report.specs.declared.captures.ending.RefusalCode.{RefusalCode}
 use Rattle.rip_report.specs.declared.captures.ending.RefusalCode.TheVariants.{Capture, TooManyLines}
 use Rattle.rip_report.specs.declared.status.Status.{Status}
 use Rattle.rip_report.specs.declared.status.Status.TheVariants.{Done, Unclear}
 
--- a packet, and what it carries
-pub record Carrier : Type 0 where
-  pub frame : Frame
-  pub carried : Carried
-
--- it carries that
-abbrev pub IsCarrier : Carrier → Type 0
-IsCarrier c = Carries c.frame.link_type c.frame.bytes c.carried
+-- these are packets of a file from its first one on, of which a log has that
+pub record AreCarriers (choice : Choice) (carriers : List Carrier) : Type 0 where
+  pub carry : AllByRecursion IsCarrier carriers
+  pub logged : AreLogged choice None carriers
 
 -- these bytes are a capture, up to here, of these packets
-pub record IsCaptureOf (b : List ℕ) (carriers : List Carrier) : Type 0 where
+pub record IsCaptureOf (choice : Choice) (b : List ℕ) (carriers : List Carrier) : Type 0 where
   pub capture : IsCapture b (map (λ c. c.frame) carriers)
-  pub carry : AllByRecursion IsCarrier carriers
+  pub are : AreCarriers choice carriers
 
 -- ---- the line of a packet
 
@@ -53,10 +51,15 @@ carried_line how link frame Unknown = line (link ++ codes " unknown cut")
 carried_line how link frame Elsewhere = []
 carried_line how link frame Others = []
 
+-- the line of what a log has of a packet
+abbrev pub logged_line : Authentication → List ℕ → List ℕ → Logged → List ℕ
+logged_line how link frame (As carried) = carried_line how link frame carried
+logged_line how link frame (Mixed sender) = line (sender_part link sender ++ codes "mixed")
+
 -- the lines of packets, in order
 abbrev pub packet_lines : Authentication → List ℕ → List Carrier → List ℕ
 packet_lines how link carriers =
-    flat_map (λ c. carried_line how link c.frame.bytes c.carried) carriers
+    flat_map (λ c. logged_line how link c.frame.bytes c.logged) carriers
 
 -- ---- how many packets there are of each kind
 
@@ -92,24 +95,47 @@ abbrev pub is_other : Carried → Bool
 is_other Others = true
 is_other _ = false
 
--- what is left out of the datagram that a frame carries
-abbrev pub omitted_of : Authentication → List ℕ → Carried → Omitted
-omitted_of how frame (Datagram sender span) = omitted_from how (slice_of frame span)
+-- it has a line
+abbrev pub is_told : Carried → Bool
+is_told Elsewhere = false
+is_told Others = false
+is_told _ = true
+
+-- a log has such a thing of a packet
+abbrev pub such : (Carried → Bool) → Logged → Bool
+such is_such (As carried) = is_such carried
+such is_such (Mixed sender) = false
+
+-- a log has that it comes from elsewhere
+abbrev pub is_mixed : Logged → Bool
+is_mixed (As carried) = false
+is_mixed (Mixed sender) = true
+
+-- what is left out of the datagram that a log has of a frame
+abbrev pub omitted_of : Authentication → List ℕ → Logged → Omitted
+omitted_of how frame (As (Datagram sender span)) = omitted_from how (slice_of frame span)
 omitted_of how frame _ = nothing_omitted
 
 -- the packet has a line
-abbrev pub has_line : Carried → Bool
-has_line Elsewhere = false
-has_line Others = false
-has_line _ = true
+abbrev pub has_line : Logged → Bool
+has_line logged = such is_told logged || is_mixed logged
 
--- how many of the packets carry such a thing
+-- a datagram of which a log has a line lies within so many bytes of its frame
+abbrev pub LogLiesWithin : ℕ → Logged → Type 0
+LogLiesWithin size (As carried) = LiesWithin size carried
+LogLiesWithin size (Mixed sender) = Unit {0}
+
+-- of how many of the packets a log has such a thing
 abbrev pub count_of : (Carried → Bool) → List Carrier → ℕ
-count_of is_such carriers = count_by (λ c. is_such c.carried) carriers
+count_of is_such carriers = count_by (λ c. such is_such c.logged) carriers
+
+-- how many of them come from elsewhere
+abbrev pub mixed_count : List Carrier → ℕ
+mixed_count carriers = count_by (λ c. is_mixed c.logged) carriers
 
 -- the lines of the packets
 abbrev pub line_count : List Carrier → ℕ
-line_count carriers = count_of has_line carriers
+line_count carriers = count_by (λ c. has_line c.logged) carriers
 
 -- the packets, counted by what they carry
 abbrev pub counts_of : Authentication → List Carrier → PacketCounts
@@ -120,9 +146,10 @@ counts_of how carriers = record {
   fragments = count_of is_fragment carriers;
   malformed = count_of is_malformed carriers;
   long = count_of is_long carriers;
-  passwords = count_by (λ c. (omitted_of how c.frame.bytes c.carried).password) carriers;
+  mixed = mixed_count carriers;
+  passwords = count_by (λ c. (omitted_of how c.frame.bytes c.logged).password) carriers;
   without_authentication =
-      count_by (λ c. (omitted_of how c.frame.bytes c.carried).authentication) carriers;
+      count_by (λ c. (omitted_of how c.frame.bytes c.logged).authentication) carriers;
   elsewhere = count_of is_elsewhere carriers;
   others = count_of is_other carriers;
 }
@@ -131,19 +158,20 @@ counts_of how carriers = record {
 abbrev pub one : Bool → ℕ
 one b = if b then 1 else 0
 
--- a packet more was counted, which carries this, and of whose datagram this is left out
-abbrev pub counted : PacketCounts → Carried → Omitted → PacketCounts
-counted n carried omitted = record {
+-- a packet more was counted, of which a log has this, and of whose datagram that is left out
+abbrev pub counted : PacketCounts → Logged → Omitted → PacketCounts
+counted n logged omitted = record {
   packets = n.packets + 1;
-  datagrams = n.datagrams + one (is_datagram carried);
-  cut = n.cut + one (is_cut carried);
-  fragments = n.fragments + one (is_fragment carried);
-  malformed = n.malformed + one (is_malformed carried);
-  long = n.long + one (is_long carried);
+  datagrams = n.datagrams + one (such is_datagram logged);
+  cut = n.cut + one (such is_cut logged);
+  fragments = n.fragments + one (such is_fragment logged);
+  malformed = n.malformed + one (such is_malformed logged);
+  long = n.long + one (such is_long logged);
+  mixed = n.mixed + one (is_mixed logged);
   passwords = n.passwords + one omitted.password;
   without_authentication = n.without_authentication + one omitted.authentication;
-  elsewhere = n.elsewhere + one (is_elsewhere carried);
-  others = n.others + one (is_other carried);
+  elsewhere = n.elsewhere + one (such is_elsewhere logged);
+  others = n.others + one (such is_other logged);
 }
 
 -- there is room for a packet more, and no count is above that of the packets
@@ -154,15 +182,19 @@ pub record HasRoom (n : PacketCounts) : Type 0 where
   pub fragments : n.fragments ≤ n.packets
   pub malformed : n.malformed ≤ n.packets
   pub long : n.long ≤ n.packets
+  pub mixed : n.mixed ≤ n.packets
   pub passwords : n.passwords ≤ n.packets
   pub without_authentication : n.without_authentication ≤ n.packets
   pub elsewhere : n.elsewhere ≤ n.packets
   pub others : n.others ≤ n.packets
 
--- Done where each datagram is there whole, else Unclear
+-- Done where each datagram is there whole and none is mixed in, else Unclear
 abbrev pub counted_status : PacketCounts → Status
 counted_status n =
-    if n.cut == 0 && (n.fragments == 0 && (n.malformed == 0 && n.long == 0)) then Done else Unclear
+    if n.cut == 0
+        && (n.fragments == 0 && (n.malformed == 0 && (n.long == 0 && n.mixed == 0)))
+    then Done
+    else Unclear
 
 -- ---- the last line of a file
 
@@ -176,13 +208,15 @@ comment_front number link n =
     codes "# " ++ file_part number link ++ codes ": " ++ decimal n.packets ++ codes " packets, "
     ++ decimal n.datagrams ++ codes " datagrams"
 
--- `, 1 cut, 2 long`: the datagrams that are not there whole, where there are any
+-- `, 1 cut, 2 long, 3 mixed`: the datagrams that are not there whole, or mixed in, where there are
+-- any
 unfoldable pub lacking_part : PacketCounts → List ℕ
 lacking_part n =
     count_part (codes ", ") n.cut (codes " cut")
     ++ count_part (codes ", ") n.fragments (codes " fragments")
     ++ count_part (codes ", ") n.malformed (codes " malformed")
     ++ count_part (codes ", ") n.long (codes " long")
+    ++ count_part (codes ", ") n.mixed (codes " mixed")
 
 -- `, 1 passwords, 12 others`: the other counts, where they are not 0
 unfoldable pub other_part : PacketCounts → List ℕ

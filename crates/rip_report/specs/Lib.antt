@@ -26,6 +26,7 @@ pub mod AnywayText
 pub mod Hearings
 pub mod Runs
 pub mod LoggedDatagrams
+pub mod Selections
 pub mod CaptureText
 pub mod CaptureLogs
 pub mod CapturePackets

@@ -5,10 +5,16 @@ mod counts;
 mod ending;
 mod lines;
 mod log;
+mod logged;
 mod packets;
+mod part;
+mod selection;
 mod tally;
 
-ghost use Rattle.std.specs.Prelude.{◌≡◌, ◌≢◌, ◌⊎◌, ◌+◌, ◌^◌, ◌<◌, ◌≤◌, ◌++◌, ◌∷◌, [], ℕ, List, Some, Err, Ok, length, true};
+ghost use Rattle.std.specs.Prelude.{◌≡◌, ◌≢◌, ◌⊎◌, ◌+◌, ◌^◌, ◌<◌, ◌≤◌, ◌++◌, ◌∷◌, [], ℕ, List, Some, None, Err, Ok, IfErr, IfOk, length, true};
+ghost use Rattle.rip_capture.specs.NextCall.{Stands, refusal_of, source_of};
+ghost use Rattle.rip_capture.specs.Origins.{origin_in};
+ghost use Rattle.rip_report.specs.Selections.{part_of};
 ghost use Rattle.rip_report.specs.Finished.{EndsWith};
 ghost use Rattle.rip_report.specs.CaptureLogs.{AddsFile, AddsUnread, File, GoesOn, IsLogOf, LogOf, SaysFiles, answer_so_far, authentication_of, status_of, worse};
 ghost use Rattle.rip_log.specs.declared.limits.TheConstants.{MOST_LINES};
@@ -30,11 +36,12 @@ use crate::captures::ending::Ending;
 use crate::captures::lines::{push_comment, push_file_refusal_line};
 pub use crate::captures::log::CaptureLog;
 use crate::captures::packets::log_packets;
+pub use crate::captures::part::{FilePart, Selection};
 use crate::captures::tally::Tally;
 use crate::laws::logged_files;
 use crate::output::Out;
 use crate::status::{RunError, Status, fault_line};
-use rip_capture::CaptureReader;
+use rip_capture::{CaptureReader, FirstOrigin};
 use rip_capture::laws::{early_faults, long_captures, read_captures};
 use rip_log::laws::two_texts;
 use rip_log::{Failed, MOST_LINES, Sink, Source};
@@ -134,44 +141,62 @@ pub fn log_failure<K: Sink>(error: RunError, out: K) -> (K, Result<Status, RunEr
     text.finish_with(Err(error))
 }
 
-/// Writes what a log has of a capture file of a link, behind the files that were written before: a
-/// line for each packet that carries a RIP datagram to 224.0.0.9, and a comment that counts all
-/// packets. Where the file is refused or cannot be read, the last line says so, no comment follows,
-/// and no file should. The source and the sink come back. It allocates one buffer, of the same size
-/// for every file.
+/// A reader of a capture file, and what is known of the first packet whose sender is known: nothing
+/// yet. Where memory is refused, the file comes back.
+fn open<R: Source>(alloc: Global, file: R) -> Result<(CaptureReader<R>, FirstOrigin), R>
+    ensures source { IfOk result (λ o. source_of o.0 ≡ file) }
+    ensures front { IfOk result (λ o. Stands R.given (R.given file) o.0 [] []) }
+    ensures running { IfOk result (λ o. refusal_of o.0 ≡ None) }
+    ensures first { IfOk result (λ o. origin_in o.1 ≡ None) }
+    ensures refused { IfErr result (λ source. source ≡ file) }
+{
+    let Ok(first) = FirstOrigin::new(alloc) else {
+        return Err(file);
+    };
+    match CaptureReader::new(alloc, file) {
+        Ok(reader) => Ok((reader, first)),
+        Err((_, file)) => Err(file),
+    }
+}
+
+/// Writes what a log has of the part of a capture file that is a link's, behind the files that were
+/// written before: a line for each packet that carries a RIP datagram to 224.0.0.9, and a comment
+/// that counts all packets. Where the file is refused or cannot be read, the last line says so, no
+/// comment follows, and no file should. The source and the sink come back. It allocates two
+/// buffers, of the same size for every file.
 pub fn run_log<R: Source, K: Sink>(
     alloc: Global,
     log: &mut CaptureLog,
-    link: &str,
+    part: &FilePart<'_>,
     file: R,
     out: K,
 ) -> (R, K, Result<Status, RunError>)
-    requires { IsName link.now }
+    requires { IsName part.now.link.now }
     // The whole text went out, or a beginning where the sink failed.
     ensures prints { (bytes : List ℕ) → IsGiven R.given R.at_end file result.0 bytes →
-        AddsFile K.taken K.broken out result.1 log.old log.new link.now bytes result.2 }
+        AddsFile K.taken K.broken out result.1 log.old log.new (part_of part.now) bytes result.2 }
     // Where the source failed, no packet is left out that it gave whole.
     ensures unread { (bytes : List ℕ) → R.given result.0 ≡ R.given file ++ bytes →
         result.2 ≡ Err RunError.Read →
-        AddsUnread K.taken out result.1 (authentication_of log.old) link.now bytes }
+        AddsUnread K.taken out result.1 (authentication_of log.old) (part_of part.now) bytes }
     // Where there is no memory, the file comes back as it was.
     ensures untouched { result.2 ≡ Err RunError.Memory → result.0 ≡ file }
     // Behind a log of files that are captures it has the log of one more, or one that ends with it.
     ensures goes_on { (bytes : List ℕ) → IsGiven R.given R.at_end file result.0 bytes →
         (files : List File) (text : List ℕ) → IsLogOf log.old files text →
-        result.2 ≢ Err RunError.Write → (part : List ℕ)
-        × Took (K.taken out) (K.taken result.1) part
-        × GoesOn log.new (files ++ record { link = link.now; bytes = bytes } ∷ [])
-        (text ++ part) result.2 }
+        result.2 ≢ Err RunError.Write → (more : List ℕ)
+        × Took (K.taken out) (K.taken result.1) more
+        × GoesOn log.new (files ++ record { part = part_of part.now; bytes = bytes } ∷ [])
+        (text ++ more) result.2 }
     // Behind a log that says the datagrams of some files, and nothing else, it says those of this
     // one too, or has a bad line.
     ensures says { (bytes : List ℕ) → IsGiven R.given R.at_end file result.0 bytes →
         (files : List File) (text : List ℕ) →
         SaysFiles (authentication_of log.old) files text (Ok (status_of log.old)) →
-        result.2 ≢ Err RunError.Write → (part : List ℕ)
-        × Took (K.taken out) (K.taken result.1) part
+        result.2 ≢ Err RunError.Write → (more : List ℕ)
+        × Took (K.taken out) (K.taken result.1) more
         × SaysFiles (authentication_of log.old)
-        (files ++ record { link = link.now; bytes = bytes } ∷ []) (text ++ part)
+        (files ++ record { part = part_of part.now; bytes = bytes } ∷ []) (text ++ more)
         (answer_so_far log.new result.2) }
     // What becomes of the authentication of datagrams stays.
     ensures authentication { authentication_of log.new ≡ authentication_of log.old }
@@ -192,17 +217,24 @@ pub fn run_log<R: Source, K: Sink>(
     read_captures();
     logged_files();
     two_texts();
-    match CaptureReader::new(alloc, file) {
-        Err((_, file)) => {
+    match open(alloc, file) {
+        Err(file) => {
             let (out, answer) = log_failure(RunError::Memory, out);
             (file, out, answer)
         }
-        Ok(mut reader) => {
+        Ok((mut reader, mut first)) => {
             let mut text = Out::new(out);
             let authentication = log.authentication;
             let lines = log.lines;
-            let ending = log_packets(&mut reader, link, authentication, lines, &mut text);
-            let (out, answer) = close_file(log, link, ending, text);
+            let ending = log_packets(
+                &mut reader,
+                part,
+                authentication,
+                lines,
+                &mut first,
+                &mut text,
+            );
+            let (out, answer) = close_file(log, part.link, ending, text);
             (reader.into_source(), out, answer)
         }
     }

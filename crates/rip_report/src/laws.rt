@@ -5,7 +5,8 @@ ghost use Rattle.std.specs.Prelude.{◌≡◌, ◌≢◌, ◌↔◌, ◌⊎◌, 
 ghost use Rattle.std.specs.List.{AllByRecursion};
 ghost use Rattle.rip_log.specs.Logs.{Numbered};
 ghost use Rattle.rip_log.specs.LogText.{EndsLine, LogText};
-ghost use Rattle.rip_report.specs.CaptureText.{Carrier, count_of, is_cut, is_datagram, is_elsewhere, is_fragment, is_long, is_malformed, is_other};
+ghost use Rattle.rip_report.specs.CaptureText.{count_of, is_cut, is_datagram, is_elsewhere, is_fragment, is_long, is_malformed, is_other, mixed_count};
+ghost use Rattle.rip_report.specs.Selections.{Carrier, Part};
 ghost use Rattle.rip_report.specs.CaptureText.{counts_of as counts_of_packets};
 ghost use Rattle.rip_report.specs.CaptureLogs.{File, FileText, HasDatagrams, HaveDatagrams, IsFile, LogOf};
 ghost use Rattle.rip_report.specs.declared.captures.authentication.Authentication.{Authentication};
@@ -25,7 +26,7 @@ ghost use Rattle.rip_report.specs.ReportText.{AreRead, IsAccepted, IsTable, Repo
 ghost use Rattle.rip_report.specs.Sent.{WentOut};
 ghost use Rattle.rip_log.specs.Taken.{Taken};
 
-use rip_capture::laws::packet_bytes;
+use rip_capture::laws::{one_origin, packet_bytes};
 use rip_log::laws::log_texts;
 use rip_plan::laws::{one_plan, well_formed_texts};
 use rip_table::laws::{calm_counts, calm_logs, lines_come_to, new_states, one_join};
@@ -72,7 +73,7 @@ pub fn accepted_answers()
 pub fn counted_packets()
     ensures kinds { (carriers : List Carrier) → length carriers
         ≡ count_of is_datagram carriers + count_of is_cut carriers + count_of is_fragment carriers
-        + count_of is_malformed carriers + count_of is_long carriers
+        + count_of is_malformed carriers + count_of is_long carriers + mixed_count carriers
         + count_of is_elsewhere carriers + count_of is_other carriers }
     ensures passwords { (how : Authentication) (carriers : List Carrier) →
         (counts_of_packets how carriers).passwords
@@ -88,16 +89,17 @@ pub fn counted_packets()
 /// What a log has of a capture file ends a line; and if no line of it is bad, the file is a capture,
 /// all its datagrams to 224.0.0.9 are there whole, and they are the records of these lines.
 pub fn logged_files()
-    ensures ends { (how : Authentication) (number lines after : ℕ) (link bytes text : List ℕ)
+    ensures ends { (how : Authentication) (number lines after : ℕ) (part : Part) (bytes text : List ℕ)
         (answer : Result Status RunError) →
-        FileText how number lines link bytes text after answer → EndsLine text }
+        FileText how number lines part bytes text after answer → EndsLine text }
     ensures says { (how : Authentication) (number lines after : ℕ) (file : File) (text : List ℕ)
         (answer : Result Status RunError) (records : List Numbered) → IsFile file →
-        FileText how number lines file.link file.bytes text after answer → LogText text records →
+        FileText how number lines file.part file.bytes text after answer → LogText text records →
         (answer ≡ Ok Status.Done) × HasDatagrams how file (map (λ r. r.capture) records) }
 {
     log_texts();
     packet_bytes();
+    one_origin();
     rip_wire::laws::names();
     rip_wire::laws::address_texts();
 }
@@ -128,6 +130,7 @@ pub fn captured_logs()
 {
     log_texts();
     packet_bytes();
+    one_origin();
     rip_wire::laws::names();
     rip_wire::laws::address_texts();
 }

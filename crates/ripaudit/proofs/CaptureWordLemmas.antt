@@ -6,7 +6,9 @@ use Rattle.std.proofs.lemmas.List.{get_or_default}
 use Rattle.std.proofs.lemmas.Str.Pattern.{drop_at_char, NoCharPasses-char}
 use Rattle.std.specs.Option.{IfSome, IsSomeAnd}
 use Rattle.rip_wire.specs.Name.{IsName}
-use Rattle.ripaudit.specs.CaptureWords.{IsFileName, below, alone, IsStem, cut, front, none, IsCaptureWord, both, file, IsFineWord, Lacks}
+use Rattle.ripaudit.specs.CaptureWords.{IsFileName, below, alone, IsStem, cut, front, none, IsCaptureWord, both, file, IsFineWord, IsPartText, part_in}
+use Rattle.ripaudit.specs.Texts.{Lacks}
+use Rattle.rip_report.specs.Selections.{Choice, OneOrigin, Part}
 use Rattle.ripaudit.specs.declared.words.CaptureWord.{CaptureWord}
 
 -- no byte is c, read at the default 0
@@ -100,38 +102,43 @@ has_name path name link is stem named none_left = no_name name link (empty_name 
 
 -- ---- what is found in a word
 
-pub named_both : (word a b : List ℕ) (r : Option CaptureWord) → word ≡ a ++ 61 ∷ b → Lacks 61 a
-    → IfSome r (λ w. (w.link.now ≡ a) × (w.path.now ≡ b) × IsName a × (b ≢ [])) → IfSome r (λ w. IsCaptureWord word w.link.now w.path.now)
-named_both word a b None e l h = tt
-named_both word a b (Some w) e l h =
-    subst (λ (x : List ℕ). IsCaptureWord word x w.path.now) (sym h.0) (subst (IsCaptureWord word a) (sym h.1) (both e l h.2 h.3))
+pub named_both : (word text b : List ℕ) (r : Option CaptureWord) → word ≡ text ++ 61 ∷ b → Lacks 61 text
+    → IfSome r (λ w. IsPartText text (part_in w) × IsName w.link.now × (w.path.now ≡ b) × (b ≢ [])) → IfSome r (λ w. IsCaptureWord word (part_in w) w.path.now)
+named_both word text b None e l h = tt
+named_both word text b (Some w) e l h = subst (IsCaptureWord word (part_in w)) (sym h.2) (both text e l h.0 h.3)
 
 pub named_file : (word name a : List ℕ) (r : Option CaptureWord) → Lacks 61 word → word ≢ codes "-" → IsFileName word name → IsStem name a
-    → IfSome r (λ w. (w.link.now ≡ a) × (w.path.now ≡ word) × IsName a × (word ≢ [])) → IfSome r (λ w. IsCaptureWord word w.link.now w.path.now)
+    → IfSome r (λ w. (part_in w ≡ record { link = a; choice = OneOrigin }) × (w.path.now ≡ word) × IsName a × (word ≢ [])) → IfSome r (λ w. IsCaptureWord word (part_in w) w.path.now)
 named_file word name a None l d f s h = tt
-named_file word name a (Some w) l d f s h =
-    subst (λ (x : List ℕ). IsCaptureWord word x w.path.now) (sym h.0) (file name l d f s h.2 h.1)
+named_file word name a (Some w) l d f s h = file name a l d f s h.2 h.0 h.1
 
-pub found : (a b link path : List ℕ) (r : Option CaptureWord) → a ≡ link → b ≡ path → IsName link → path ≢ []
-    → (IsName a → b ≢ [] → IsSomeAnd r (λ w. (w.link.now ≡ a) × (w.path.now ≡ b))) → IsSomeAnd r (λ w. (w.link.now ≡ link) × (w.path.now ≡ path))
-found a b link path r e f named some h =
-    subst (λ (x : List ℕ). IsSomeAnd r (λ w. (w.link.now ≡ x) × (w.path.now ≡ path))) e
-    (subst (λ (y : List ℕ). IsSomeAnd r (λ w. (w.link.now ≡ a) × (w.path.now ≡ y))) f (h (subst IsName (sym e) named) (λ g. some (sym f ∙ g))))
+-- what is found of a link and of what is chosen
+pub found_part : (a link : List ℕ) (choice : Choice) (b path : List ℕ) (part : Part) (r : Option CaptureWord) → a ≡ link → b ≡ path → part ≡ record { link = link; choice = choice } → IsName link → path ≢ []
+    → (IsName a → b ≢ [] → IsSomeAnd r (λ w. (part_in w ≡ record { link = a; choice = choice }) × (w.path.now ≡ b))) → IsSomeAnd r (λ w. (part_in w ≡ part) × (w.path.now ≡ path))
+found_part a link choice b path part r e f is named some h =
+    subst (λ (q : Part). IsSomeAnd r (λ w. (part_in w ≡ q) × (w.path.now ≡ path))) (ap (λ (l : List ℕ). record { link = l; choice = choice }) e ∙ sym is)
+    (subst (λ (y : List ℕ). IsSomeAnd r (λ w. (part_in w ≡ record { link = a; choice = choice }) × (w.path.now ≡ y))) f (h (subst IsName (sym e) named) (λ g. some (sym f ∙ g))))
+
+-- what is found of the text in front of a file
+pub found_both : (a text b path : List ℕ) (part : Part) (r : Option CaptureWord) → a ≡ text → b ≡ path → IsPartText text part → path ≢ []
+    → ((q : Part) → IsPartText a q → b ≢ [] → IsSomeAnd r (λ w. (part_in w ≡ q) × (w.path.now ≡ b))) → IsSomeAnd r (λ w. (part_in w ≡ part) × (w.path.now ≡ path))
+found_both a text b path part r e f is some h =
+    subst (λ (y : List ℕ). IsSomeAnd r (λ w. (part_in w ≡ part) × (w.path.now ≡ y))) f (h part (subst (λ (t : List ℕ). IsPartText t part) (sym e) is) (λ g. some (sym f ∙ g)))
 
 -- ---- the words of a command line
 
 -- a word that names no file and link
 pub no_word : (words : List (List ℕ)) (at : ℕ) (word : List ℕ) → get_or words at [] ≡ word
-    → ((link path : List ℕ) → IsCaptureWord word link path → ⊥) → IsFineWord words at → ⊥
-no_word words at word e other fine = other fine.link fine.path (subst (λ (w : List ℕ). IsCaptureWord w fine.link fine.path) e fine.names)
+    → ((part : Part) (path : List ℕ) → IsCaptureWord word part path → ⊥) → IsFineWord words at → ⊥
+no_word words at word e other fine = other fine.part fine.path (subst (λ (w : List ℕ). IsCaptureWord w fine.part fine.path) e fine.names)
 
 -- a word that names standard input where one before it does
 pub second_input : (words : List (List ℕ)) (at : ℕ) (word : List ℕ) → get_or words at [] ≡ word
-    → ((link path : List ℕ) → IsCaptureWord word link path → path ≡ codes "-")
-    → (i : ℕ) × (link : List ℕ) × (i < at) × IsCaptureWord (get_or words i []) link (codes "-") → IsFineWord words at → ⊥
+    → ((part : Part) (path : List ℕ) → IsCaptureWord word part path → path ≡ codes "-")
+    → (i : ℕ) × (part : Part) × (i < at) × IsCaptureWord (get_or words i []) part (codes "-") → IsFineWord words at → ⊥
 second_input words at word e input before fine =
-    let is = subst (λ (w : List ℕ). IsCaptureWord w fine.link fine.path) e fine.names in
-    fine.once (input fine.link fine.path is) before.0 before.2 before.1 before.3
+    let is = subst (λ (w : List ℕ). IsCaptureWord w fine.part fine.path) e fine.names in
+    fine.once (input fine.part fine.path is) before.0 before.2 before.1 before.3
 
 -- what holds below a number, and of it, holds up to it
 pub up_to : (P : ℕ → Type 0) (n i : ℕ) → ((k : ℕ) → k < n → P k) → P n → i < n + 1 → P i

@@ -1,2 +1,3 @@
 pub mod CaptureWordLemmas
+pub mod WhichLemmas
 pub mod FileLemmas

@@ -29,9 +29,9 @@ abbrev pub HasGivenAt : List ClosedSource → ℕ → List ℕ → Type 0
 HasGivenAt sources k bytes =
     (source : ClosedSource) → slice_get sources k ≡ Some source → HasGiven source bytes
 
--- a word names the file, with its link
+-- a word names the file, and the part of it that is a link's
 abbrev pub NamesFile : List ℕ → File → Type 0
-NamesFile word file = (path : List ℕ) × IsCaptureWord word file.link path
+NamesFile word file = (path : List ℕ) × IsCaptureWord word file.part path
 
 -- these are the files of the first words: each is named by its word, and has what its source gave
 -- if it was opened

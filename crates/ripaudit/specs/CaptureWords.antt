@@ -1,11 +1,11 @@
 -- The words of `log`: which file a word names, and which link.
-use Rattle.std.specs.Prelude.{◌≡◌, ◌≢◌, ℕ, ◌<◌, List, [], ◌++◌, All, length, codes}
+use Rattle.std.specs.Prelude.{◌≡◌, ◌≢◌, ℕ, ◌<◌, List, [], ◌++◌, length, codes}
 use Rattle.std.specs.List.{slice_index_or}
 use Rattle.rip_wire.specs.Name.{IsName}
-
--- no byte of the text is c
-abbrev pub Lacks : ℕ → List ℕ → Type 0
-Lacks c text = All (λ b. b ≢ c) text
+use Rattle.rip_report.specs.Selections.{Choice, OneOrigin, Part}
+use Rattle.ripaudit.specs.Texts.{Lacks}
+use Rattle.ripaudit.specs.Whiches.{IsWhich, choice_in}
+use Rattle.ripaudit.specs.declared.words.CaptureWord.{CaptureWord}
 
 -- the name of a file without its folders: what follows the last `/`, or all where there is none
 pub data IsFileName (path name : List ℕ) : Type 0 where
@@ -22,20 +22,33 @@ pub data IsStem (name stem : List ℕ) : Type 0 where
       IsStem name stem
   none : Lacks 46 name → stem ≡ name → IsStem name stem
 
--- a word names a file and its link: both, round its first `=`, or a file whose link is its name
--- without its folders and without its last extension, and which is not standard input
-pub data IsCaptureWord (word link path : List ℕ) : Type 0 where
-  both : word ≡ link ++ (codes "=" ++ path) → Lacks 61 link → IsName link → path ≢ [] →
-      IsCaptureWord word link path
-  file : (name : List ℕ) → Lacks 61 word → word ≢ codes "-" → IsFileName word name →
-      IsStem name link → IsName link → path ≡ word → IsCaptureWord word link path
+-- a text names a link, or a link and, behind `@`, which packets of a file are its own
+pub data IsPartText (text : List ℕ) (part : Part) : Type 0 where
+  link : IsName text → part ≡ record { link = text; choice = OneOrigin } → IsPartText text part
+  which : (link which : List ℕ) (choice : Choice) → text ≡ link ++ (codes "@" ++ which) →
+      IsName link → IsWhich which choice → part ≡ record { link = link; choice = choice } →
+      IsPartText text part
+
+-- a word names a file and a part of it that is a link's: the part and the file, round its first
+-- `=`; or a file, all of which is the link's that its name without its folders and without its last
+-- extension names, and which is not standard input
+pub data IsCaptureWord (word : List ℕ) (part : Part) (path : List ℕ) : Type 0 where
+  both : (text : List ℕ) → word ≡ text ++ (codes "=" ++ path) → Lacks 61 text →
+      IsPartText text part → path ≢ [] → IsCaptureWord word part path
+  file : (name link : List ℕ) → Lacks 61 word → word ≢ codes "-" → IsFileName word name →
+      IsStem name link → IsName link → part ≡ record { link = link; choice = OneOrigin } →
+      path ≡ word → IsCaptureWord word part path
+
+-- the part that a word names
+abbrev pub part_in : CaptureWord → Part
+part_in word = record { link = word.link.now; choice = choice_in word.which }
 
 -- the word of this number names a file and its link, and standard input only where none before does
 pub record IsFineWord (words : List (List ℕ)) (at : ℕ) : Type 0 where
-  pub link : List ℕ
+  pub part : Part
   pub path : List ℕ
-  pub names : IsCaptureWord (slice_index_or words at []) link path
-  pub once : path ≡ codes "-" → (i : ℕ) → i < at → (other : List ℕ) →
+  pub names : IsCaptureWord (slice_index_or words at []) part path
+  pub once : path ≡ codes "-" → (i : ℕ) → i < at → (other : Part) →
       ¬ IsCaptureWord (slice_index_or words i []) other (codes "-")
 
 -- each of these words does

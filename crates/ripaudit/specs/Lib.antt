@@ -1,3 +1,5 @@
 pub mod CaptureFiles
 pub mod CaptureWords
 pub mod CommandText
+pub mod Texts
+pub mod Whiches

@@ -10,13 +10,14 @@ ghost use Rattle.rip_report.specs.CaptureLogs.{File, GoesOn, HaveDatagrams, IsFi
 ghost use Rattle.rip_report.specs.declared.status.RunError.{RunError};
 ghost use Rattle.rip_report.specs.declared.status.Status.{Status};
 ghost use Rattle.ripaudit.specs.CaptureFiles.{AreFilesOf, ClosedSource, HasGiven, HasGivenAt, HasGivenIf, NamesFile, ends_log};
-ghost use Rattle.ripaudit.specs.CaptureWords.{AreFineWords};
+ghost use Rattle.rip_report.specs.Selections.{part_of};
+ghost use Rattle.ripaudit.specs.CaptureWords.{AreFineWords, part_in};
 
 use crate::command_line::{read_failure, told_input};
 use crate::words::{CaptureWord, capture_word};
 use rip_log::{FromRead, Sink};
 use rip_report::laws::{captured_logs, stopped_logs};
-use rip_report::{Authentication, CaptureLog, RunError, Status, log_failure, run_log};
+use rip_report::{Authentication, CaptureLog, FilePart, RunError, Status, log_failure, run_log};
 use std::alloc::Global;
 use std::fs;
 use std::io::{IsTerminal, Read};
@@ -30,21 +31,21 @@ type Closed = FromRead<&'static [u8]>;
 fn log_reader<L: Read + Drop, K: Sink>(
     alloc: Global,
     log: &mut CaptureLog,
-    link: &str,
+    part: &FilePart<'_>,
     reader: L,
     out: K,
 ) -> (Closed, K, Result<Status, RunError>)
-    requires { IsName link.now }
+    requires { IsName part.now.link.now }
     ensures goes_on { (bytes : List ℕ) → HasGiven result.0 bytes →
         (files : List File) (text : List ℕ) → IsLogOf log.old files text →
-        result.2 ≢ Err RunError.Write → (part : List ℕ)
-        × Took (K.taken out) (K.taken result.1) part
-        × GoesOn log.new (files ++ record { link = link.now; bytes = bytes } ∷ [])
-        (text ++ part) result.2 }
+        result.2 ≢ Err RunError.Write → (more : List ℕ)
+        × Took (K.taken out) (K.taken result.1) more
+        × GoesOn log.new (files ++ record { part = part_of part.now; bytes = bytes } ∷ [])
+        (text ++ more) result.2 }
     ensures write { result.2 ≡ Err RunError.Write → K.broken result.1 ≡ true }
     ensures authentication { authentication_of log.new ≡ authentication_of log.old }
 {
-    let (source, out, answer) = run_log(alloc, log, link, FromRead::new(reader), out);
+    let (source, out, answer) = run_log(alloc, log, part, FromRead::new(reader), out);
     (source.close(), out, answer)
 }
 
@@ -52,31 +53,32 @@ fn log_reader<L: Read + Drop, K: Sink>(
 fn log_file<R: Files + AllocGlobal + Input + Eprint, K: Sink>(
     rt: &R,
     log: &mut CaptureLog,
-    word: CaptureWord<'_>,
+    word: &CaptureWord<'_>,
     out: K,
 ) -> (Option<Closed>, K, Result<Status, RunError>)
 where
     R::Reader: IsTerminal,
-    requires { IsName word.link.now }
+    requires { IsName word.now.link.now }
     ensures goes_on { (bytes : List ℕ) → HasGivenIf result.0 bytes →
         (files : List File) (text : List ℕ) → IsLogOf log.old files text →
-        result.2 ≢ Err RunError.Write → (part : List ℕ)
-        × Took (K.taken out) (K.taken result.1) part
-        × GoesOn log.new (files ++ record { link = word.entry.link.now; bytes = bytes } ∷ [])
-        (text ++ part) result.2 }
+        result.2 ≢ Err RunError.Write → (more : List ℕ)
+        × Took (K.taken out) (K.taken result.1) more
+        × GoesOn log.new (files ++ record { part = part_in word.now; bytes = bytes } ∷ [])
+        (text ++ more) result.2 }
     ensures opened { IfOk result.2 (λ _. IsSome result.0) }
     ensures write { result.2 ≡ Err RunError.Write → K.broken result.1 ≡ true }
     ensures authentication { authentication_of log.new ≡ authentication_of log.old }
 {
     let alloc = rt.alloc();
+    let part = word.part();
     if word.is_input() {
         let input = told_input(rt, "reading the capture from standard input");
-        let (source, out, answer) = log_reader(alloc, log, word.link, input, out);
+        let (source, out, answer) = log_reader(alloc, log, &part, input, out);
         return (Some(source), out, answer);
     }
     match fs::open(rt, word.path) {
         Ok(file) => {
-            let (source, out, answer) = log_reader(alloc, log, word.link, file, out);
+            let (source, out, answer) = log_reader(alloc, log, &part, file, out);
             (Some(source), out, answer)
         }
         Err(error) => {
@@ -127,7 +129,7 @@ where
     if sources.reserve(1).is_err() {
         return log_failure(RunError::Memory, out);
     }
-    let (source, out, answer) = log_file(rt, log, word, out);
+    let (source, out, answer) = log_file(rt, log, &word, out);
     keep(sources, source);
     (out, answer)
 }

@@ -90,14 +90,15 @@ fn on_log_with_anyway<'a>(
 
 /// The command that reads captures.
 fn log_command<'a>(alloc: Global) -> Result<Command<'a>, AllocError> {
-    let files = "The capture files, each named after its link or LINK=FILE; - is standard input";
+    let files = "The capture files, each named after its link, or LINK=FILE, or LINK@WHICH=FILE, where \
+        WHICH is an interface, VLANs (5.103), or both with @ between; - is standard input";
     let without =
         "Print datagrams as they would be without their authentication, where it fits them";
     Command::new(alloc, "log")
         .about("Makes a log of the RIP datagrams in capture files")
         .arg(
             word(alloc, "FILE", files, true)
-                .value_name("[LINK=]FILE")
+                .value_name("[LINK[@WHICH]=]FILE")
                 .num_args(1..),
         )?
         .arg(flag(alloc, "without-authentication", without))

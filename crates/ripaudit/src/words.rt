@@ -1,21 +1,44 @@
-//! The words of `log`: files, each with the link whose packets it has.
+//! The words of `log`: files, each with the link whose packets it has, and which of them.
 
 ghost use Rattle.std.specs.Prelude.{◌≡◌, ◌≢◌, ◌↔◌, List, [], ℕ, IfSome, IsSomeAnd, IsTrue, MatchOption, codes, map};
 ghost use Rattle.rip_wire.specs.Name.{IsName};
-ghost use Rattle.ripaudit.specs.CaptureWords.{AreFineWords, IsCaptureWord, IsFileName, IsFirstBadWord, IsStem};
+ghost use Rattle.rip_report.specs.Selections.{Part};
+ghost use Rattle.ripaudit.specs.CaptureWords.{AreFineWords, IsCaptureWord, IsFileName, IsFirstBadWord, IsPartText, IsStem, part_in};
+ghost use Rattle.ripaudit.specs.Whiches.{choice_in};
 
+use crate::which::{Which, which_of};
+use rip_report::{FilePart, Selection};
 use rip_wire::is_name;
 
-/// A capture file, and the link whose packets it has.
-#[derive(Clone, Copy)]
+/// A capture file, and the part of it that is a link's.
+#[derive(Drop)]
 pub(crate) struct CaptureWord<'a> {
     /// The name of the link.
     pub(crate) link: &'a str,
+    /// Which packets are its own, or all.
+    pub(crate) which: Option<Which<'a>>,
     /// The name of the file, `-` for standard input.
     pub(crate) path: &'a str,
 }
 
 impl CaptureWord<'_> {
+    ghost use Rattle.rip_report.specs.Selections.{part_of};
+    ghost use Rattle.ripaudit.specs.CaptureWords.{part_in};
+
+    /// The part of the file that is the link's.
+    pub(crate) fn part(&self) -> FilePart<'_>
+        ensures { part_of result ≡ part_in self.now }
+    {
+        let packets = match &self.which {
+            None => Selection::OneOrigin,
+            Some(which) => Selection::Of(which.interface.as_bytes(), which.vlans.as_slice()),
+        };
+        FilePart {
+            link: self.link,
+            packets,
+        }
+    }
+
     /// Whether the file is standard input.
     pub(crate) fn is_input(&self) -> bool
         ensures { IsTrue result ↔ (self.now.path.now ≡ codes "-") }
@@ -44,32 +67,51 @@ fn stem(name: &str) -> &str
     }
 }
 
-/// A file of a link, unless its name is empty, or that of the link is none.
-fn file_of_link<'a>(link: &'a str, path: &'a str) -> Option<CaptureWord<'a>>
-    ensures named { IfSome result (λ w. (w.link.now ≡ link.now) × (w.path.now ≡ path.now)
-        × IsName link.now × (path.now ≢ [])) }
-    ensures found { IsName link.now → path.now ≢ [] →
-        IsSomeAnd result (λ w. (w.link.now ≡ link.now) × (w.path.now ≡ path.now)) }
+/// The part of a file that is a link's, unless the name of the file is empty, or that of the link
+/// is none.
+fn part_of_file<'a>(
+    link: &'a str,
+    which: Option<Which<'a>>,
+    path: &'a str,
+) -> Option<CaptureWord<'a>>
+    ensures named { IfSome result (λ w. (part_in w ≡ record { link = link.now; choice = choice_in which.entry })
+        × (w.path.now ≡ path.now) × IsName link.now × (path.now ≢ [])) }
+    ensures found { IsName link.now → path.now ≢ [] → IsSomeAnd result (λ w.
+        (part_in w ≡ record { link = link.now; choice = choice_in which.entry })
+        × (w.path.now ≡ path.now)) }
 {
     if path.is_empty() || !is_name(link.as_bytes()) {
         return None;
     }
-    Some(CaptureWord { link, path })
+    Some(CaptureWord { link, which, path })
 }
 
-/// What a word `LINK=FILE` names, or a word FILE, whose link is its name without its folders and
-/// its last extension.
+/// What a word `LINK=FILE` or `LINK@WHICH=FILE` names, by what stands on both sides.
+fn named_part<'a>(text: &'a str, path: &'a str) -> Option<CaptureWord<'a>>
+    ensures named { IfSome result (λ w. IsPartText text.now (part_in w)
+        × IsName w.link.now × (w.path.now ≡ path.now) × (path.now ≢ [])) }
+    ensures found { (part : Part) → IsPartText text.now part → path.now ≢ [] →
+        IsSomeAnd result (λ w. (part_in w ≡ part) × (w.path.now ≡ path.now)) }
+{
+    match text.split_once('@') {
+        Some((link, which)) => part_of_file(link, Some(which_of(which)?), path),
+        None => part_of_file(text, None, path),
+    }
+}
+
+/// What a word `LINK=FILE` or `LINK@WHICH=FILE` names, or a word FILE, whose link is its name
+/// without its folders and its last extension.
 pub(crate) fn capture_word(word: &str) -> Option<CaptureWord<'_>>
-    ensures named { IfSome result (λ w. IsCaptureWord word.now w.link.now w.path.now) }
+    ensures named { IfSome result (λ w. IsCaptureWord word.now (part_in w) w.path.now) }
     ensures link { IfSome result (λ w. IsName w.link.now) }
-    ensures found { (link path : List ℕ) → IsCaptureWord word.now link path →
-        IsSomeAnd result (λ w. (w.link.now ≡ link) × (w.path.now ≡ path)) }
+    ensures found { (part : Part) (path : List ℕ) → IsCaptureWord word.now part path →
+        IsSomeAnd result (λ w. (part_in w ≡ part) × (w.path.now ≡ path)) }
 {
     match word.split_once('=') {
-        Some((link, path)) => file_of_link(link, path),
+        Some((text, path)) => named_part(text, path),
         None => match word {
             "-" => None,
-            _ => file_of_link(stem(file_name(word)), word),
+            _ => part_of_file(stem(file_name(word)), None, word),
         },
     }
 }

@@ -5,6 +5,7 @@ ghost use Rattle.rip_report.specs.CaptureText.{HasRoom, counted, counted_status,
 ghost use Rattle.rip_report.specs.declared.captures.authentication.Authentication.{Authentication};
 
 use crate::captures::authentication::Omitted;
+use crate::captures::logged::Logged;
 use crate::status::Status;
 use rip_capture::Carried;
 
@@ -18,6 +19,8 @@ pub(crate) struct PacketCounts {
     pub(crate) fragments: u64,
     pub(crate) malformed: u64,
     pub(crate) long: u64,
+    /// Datagrams that come from elsewhere than the first one of the file.
+    pub(crate) mixed: u64,
     /// Datagrams with a password.
     pub(crate) passwords: u64,
     /// Datagrams of which the authentication was taken off.
@@ -39,6 +42,7 @@ impl PacketCounts {
             fragments: 0,
             malformed: 0,
             long: 0,
+            mixed: 0,
             passwords: 0,
             without_authentication: 0,
             elsewhere: 0,
@@ -46,20 +50,21 @@ impl PacketCounts {
         }
     }
 
-    /// Counts a packet that carries this, and of whose datagram this was left out.
-    pub(crate) fn add(&mut self, carried: &Carried, omitted: Omitted)
+    /// Counts a packet of which a log has this, and of whose datagram that was left out.
+    pub(crate) fn add(&mut self, logged: Logged, omitted: Omitted)
         requires { HasRoom self.old }
-        ensures { self.new ≡ counted self.old carried.now omitted }
+        ensures { self.new ≡ counted self.old logged omitted }
     {
         self.packets += 1;
-        match carried {
-            Carried::Datagram(..) => self.datagrams += 1,
-            Carried::Cut(_) | Carried::Unknown => self.cut += 1,
-            Carried::Fragment(_) => self.fragments += 1,
-            Carried::Malformed(_) => self.malformed += 1,
-            Carried::Long(_) => self.long += 1,
-            Carried::Elsewhere => self.elsewhere += 1,
-            Carried::Others => self.others += 1,
+        match logged {
+            Logged::As(Carried::Datagram(..)) => self.datagrams += 1,
+            Logged::As(Carried::Cut(_) | Carried::Unknown) => self.cut += 1,
+            Logged::As(Carried::Fragment(_)) => self.fragments += 1,
+            Logged::As(Carried::Malformed(_)) => self.malformed += 1,
+            Logged::As(Carried::Long(_)) => self.long += 1,
+            Logged::Mixed(_) => self.mixed += 1,
+            Logged::As(Carried::Elsewhere) => self.elsewhere += 1,
+            Logged::As(Carried::Others) => self.others += 1,
         }
         if omitted.password {
             self.passwords += 1;
@@ -69,11 +74,16 @@ impl PacketCounts {
         }
     }
 
-    /// Done where each datagram is there whole, else Unclear.
+    /// Done where each datagram is there whole and none is mixed in, else Unclear.
     pub(crate) fn status(self) -> Status
         ensures { result ≡ counted_status self }
     {
-        if self.cut == 0 && self.fragments == 0 && self.malformed == 0 && self.long == 0 {
+        if self.cut == 0
+            && self.fragments == 0
+            && self.malformed == 0
+            && self.long == 0
+            && self.mixed == 0
+        {
             Status::Done
         } else {
             Status::Unclear

@@ -6,7 +6,7 @@ ghost use Rattle.rip_capture.specs.Carries.{LiesWithin};
 ghost use Rattle.rip_capture.specs.Passwords.{has_password, without_password};
 ghost use Rattle.rip_log.specs.Spans.{IsWithin, slice_of};
 ghost use Rattle.rip_capture.specs.declared.limits.TheConstants.{MOST_PAYLOAD};
-ghost use Rattle.rip_report.specs.CaptureText.{carried_line, comment_front, comment_line, file_part, file_refusal_line, has_line, lacking_part, omitted_of, other_part, refusal_code_text, sender_part};
+ghost use Rattle.rip_report.specs.CaptureText.{carried_line, comment_front, comment_line, file_part, file_refusal_line, LogLiesWithin, has_line, lacking_part, logged_line, omitted_of, other_part, refusal_code_text, sender_part};
 ghost use Rattle.rip_report.specs.LoggedDatagrams.{logged_datagram, omitted_from};
 ghost use Rattle.rip_report.specs.Outs.{Adds};
 ghost use Rattle.rip_report.specs.Written.{line};
@@ -15,6 +15,7 @@ ghost use Rattle.rip_wire.specs.declared.limits.TheConstants.{HEADER_LEN};
 use crate::captures::authentication::{Authentication, Omitted};
 use crate::captures::counts::PacketCounts;
 use crate::captures::ending::RefusalCode;
+use crate::captures::logged::Logged;
 use crate::left_out::push_count;
 use crate::output::Out;
 use hex::encode_to_slice;
@@ -28,11 +29,11 @@ const DIGITS: usize = 2 * MOST_PAYLOAD;
 /// The most bytes of a password.
 const MOST_PASSWORD: usize = 16;
 
-/// Whether a log has a line of what a packet carries.
-pub(crate) fn has_line(carried: &Carried) -> bool
-    ensures { result ≡ has_line carried.now }
+/// Whether a log has a line of a packet.
+pub(crate) fn has_line(logged: Logged) -> bool
+    ensures { result ≡ has_line logged }
 {
-    !matches!(carried, Carried::Elsewhere | Carried::Others)
+    !matches!(logged, Logged::As(Carried::Elsewhere | Carried::Others))
 }
 
 /// Adds the front of a line of a link and a sender.
@@ -176,7 +177,7 @@ fn push_datagram_line<K: Sink>(
     omitted
 }
 
-/// Adds the line of what a frame carries, if it has one, and tells what was left out of its
+/// Adds the line of what a log has of a frame, if that has one, and tells what was left out of its
 /// datagram.
 #[tactic(auto, unfolding(crate::specs::CaptureText::carried_line))]
 pub(crate) fn push_line<K: Sink>(
@@ -184,24 +185,25 @@ pub(crate) fn push_line<K: Sink>(
     link: &str,
     authentication: Authentication,
     frame: &[u8],
-    carried: &Carried,
+    logged: &Logged,
 ) -> Omitted
-    requires lies { LiesWithin (length frame.now) carried.now }
+    requires lies { LogLiesWithin (length frame.now) logged.now }
     ensures adds { Adds out.old out.new
-        (carried_line authentication link.now frame.now carried.now) }
-    ensures omitted { result ≡ omitted_of authentication frame.now carried.now }
+        (logged_line authentication link.now frame.now logged.now) }
+    ensures omitted { result ≡ omitted_of authentication frame.now logged.now }
 {
-    match carried {
-        Carried::Datagram(sender, span) => {
+    match logged {
+        Logged::As(Carried::Datagram(sender, span)) => {
             let datagram = &frame[span.from..span.to];
             return push_datagram_line(out, link, *sender, authentication, datagram);
         }
-        Carried::Cut(sender) => push_word_line(out, link, *sender, "cut"),
-        Carried::Fragment(sender) => push_word_line(out, link, *sender, "fragment"),
-        Carried::Malformed(sender) => push_word_line(out, link, *sender, "malformed"),
-        Carried::Long(sender) => push_word_line(out, link, *sender, "long"),
-        Carried::Unknown => push_unknown_line(out, link),
-        Carried::Elsewhere | Carried::Others => {}
+        Logged::As(Carried::Cut(sender)) => push_word_line(out, link, *sender, "cut"),
+        Logged::As(Carried::Fragment(sender)) => push_word_line(out, link, *sender, "fragment"),
+        Logged::As(Carried::Malformed(sender)) => push_word_line(out, link, *sender, "malformed"),
+        Logged::As(Carried::Long(sender)) => push_word_line(out, link, *sender, "long"),
+        Logged::As(Carried::Unknown) => push_unknown_line(out, link),
+        Logged::Mixed(sender) => push_word_line(out, link, *sender, "mixed"),
+        Logged::As(Carried::Elsewhere | Carried::Others) => {}
     }
     Omitted::nothing()
 }
@@ -230,7 +232,7 @@ fn push_comment_front<K: Sink>(out: &mut Out<K>, number: u32, link: &str, counts
     out.push(" datagrams");
 }
 
-/// Adds the counts of what is not there whole, where they are not 0.
+/// Adds the counts of what is not there whole, or mixed in, where they are not 0.
 #[tactic(auto, unfolding(crate::specs::CaptureText::lacking_part))]
 fn push_lacking<K: Sink>(out: &mut Out<K>, counts: &PacketCounts)
     ensures { Adds out.old out.new (lacking_part counts.now) }
@@ -239,6 +241,7 @@ fn push_lacking<K: Sink>(out: &mut Out<K>, counts: &PacketCounts)
     push_count(out, ", ", counts.fragments, " fragments");
     push_count(out, ", ", counts.malformed, " malformed");
     push_count(out, ", ", counts.long, " long");
+    push_count(out, ", ", counts.mixed, " mixed");
 }
 
 /// Adds the other counts, where they are not 0.

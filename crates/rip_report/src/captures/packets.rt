@@ -1,44 +1,54 @@
 //! From the packets of a capture file to the lines of a log.
 
-ghost use Rattle.std.specs.Prelude.{◌≡◌, ◌≤◌, [], None};
+ghost use Rattle.std.specs.Prelude.{◌≡◌, ◌≤◌, [], None, Option, length};
 ghost use Rattle.rip_capture.specs.NextCall.{Stands, frame_of, refusal_of, source_of};
+ghost use Rattle.rip_capture.specs.Origins.{origin_in};
+ghost use Rattle.rip_capture.specs.Pcap.{Frame};
+ghost use Rattle.rip_capture.specs.declared.limits.TheConstants.{MOST_CAPTURED};
 ghost use Rattle.rip_log.specs.declared.limits.TheConstants.{MOST_LINES};
-ghost use Rattle.rip_report.specs.CapturePackets.{LogsPacket, LogsPackets, ended_at, ended_by};
+ghost use Rattle.rip_report.specs.CapturePackets.{Keeps, LogsPacket, LogsPackets, ended_at, ended_by};
 ghost use Rattle.rip_report.specs.CaptureText.{HasRoom};
+ghost use Rattle.rip_report.specs.Selections.{choice_of, part_of};
 
 use crate::captures::authentication::Authentication;
 use crate::captures::counts::PacketCounts;
 use crate::captures::ending::{Ending, RefusalCode};
 use crate::captures::lines::{has_line, push_line};
+use crate::captures::part::FilePart;
+use crate::captures::selection::logged;
 use crate::captures::tally::Tally;
 use crate::output::Out;
-use rip_capture::laws::{long_captures, read_captures};
-use rip_capture::{CaptureCode, CaptureError, CaptureReader, Packet, read_frame};
+use rip_capture::laws::{long_captures, read_captures, short_packets};
+use rip_capture::{CaptureCode, CaptureError, CaptureReader, FirstOrigin, Packet, read_frame};
 use rip_log::{MOST_LINES, Sink, Source};
 
 /// Adds the line of a packet, if it has one, and counts it. False where the log has no room for the
 /// line.
 fn log_packet<K: Sink>(
     packet: &Packet<'_>,
-    link: &str,
+    part: &FilePart<'_>,
     authentication: Authentication,
+    first: &mut FirstOrigin,
     tally: &mut Tally,
     out: &mut Out<K>,
 ) -> bool
     requires room { HasRoom tally.old.counts }
     requires lines { tally.old.lines ≤ MOST_LINES }
-    ensures { LogsPacket authentication link.now (frame_of packet.now) tally.old tally.new
-        out.old out.new result }
+    requires short { length packet.now.bytes.now ≤ MOST_CAPTURED }
+    ensures { (seen : Option Frame) → Keeps (choice_of part.now.packets) seen (origin_in first.old) →
+        LogsPacket authentication (part_of part.now) seen (frame_of packet.now)
+        (origin_in first.new) tally.old tally.new out.old out.new result }
 {
     let carried = read_frame(packet.link_type, packet.bytes);
-    if has_line(&carried) {
+    let logged = logged(&part.packets, first, packet, carried);
+    if has_line(logged) {
         if tally.lines >= MOST_LINES {
             return false;
         }
         tally.lines += 1;
     }
-    let omitted = push_line(out, link, authentication, packet.bytes, &carried);
-    tally.counts.add(&carried, omitted);
+    let omitted = push_line(out, part.link, authentication, packet.bytes, &logged);
+    tally.counts.add(logged, omitted);
     true
 }
 
@@ -71,19 +81,22 @@ fn ended_at(tally: Tally, at: u64) -> Ending
 /// Adds the lines of the packets of a file, of a log of so many lines, and counts them.
 pub(crate) fn log_packets<R: Source, K: Sink>(
     reader: &mut CaptureReader<R>,
-    link: &str,
+    part: &FilePart<'_>,
     authentication: Authentication,
     lines: u32,
+    first: &mut FirstOrigin,
     out: &mut Out<K>,
 ) -> Ending
     requires front { Stands R.given (R.given (source_of reader.old)) reader.old [] [] }
     requires running { refusal_of reader.old ≡ None }
     requires lines { lines ≤ MOST_LINES }
+    requires first { origin_in first.old ≡ None }
     ensures { LogsPackets K.taken K.broken R.given R.coming R.broken R.at_end
-        authentication link.now lines reader.old reader.new out.old out.new result }
+        authentication (part_of part.now) lines reader.old reader.new out.old out.new result }
 {
     long_captures();
     read_captures();
+    short_packets();
     let mut tally = Tally {
         counts: PacketCounts::new(),
         lines,
@@ -92,7 +105,7 @@ pub(crate) fn log_packets<R: Source, K: Sink>(
         match reader.next() {
             Ok(Some(packet)) => {
                 let at = packet.at;
-                if !log_packet(&packet, link, authentication, &mut tally, out) {
+                if !log_packet(&packet, part, authentication, first, &mut tally, out) {
                     let code = RefusalCode::TooManyLines;
                     return Ending::Refused { code, at };
                 }

@@ -6,7 +6,7 @@ pub returns-clause-says : goal.returns-clause-says
 returns-clause-says c = λ how files text answer records log good says.
     let known = (c.log_texts.ensures.text text records).1 says in
     let reads : Reads 0 text records = cc known in
-    log-says (record { right = c.packet_bytes.ensures.right; fault = c.packet_bytes.ensures.fault }) c.names.ensures.exact c.address_texts.ensures.exact how files text answer records good log reads
+    log-says (record { right = c.packet_bytes.ensures.right; fault = c.packet_bytes.ensures.fault }) c.one_origin.ensures.some c.names.ensures.exact c.address_texts.ensures.exact how files text answer records good log reads
 
 pub returns-clause-joined : goal.returns-clause-joined
 returns-clause-joined c = λ how files text answer n s log good table.
@@ -15,5 +15,5 @@ returns-clause-joined c = λ how files text answer n s log good table.
     let says = log-says (record {
       right = c.packet_bytes.ensures.right;
       fault = c.packet_bytes.ensures.fault;
-    }) c.names.ensures.exact c.address_texts.ensures.exact how files text answer table.records good log reads in
+    }) c.one_origin.ensures.some c.names.ensures.exact c.address_texts.ensures.exact how files text answer table.records good log reads in
     (table.records, says.1, table.joined)

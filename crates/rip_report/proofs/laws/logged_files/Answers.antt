@@ -3,7 +3,7 @@ use Rattle.rip_report.proofs.LogLineLemmas.{Reads}
 use Rattle.rip_report.proofs.laws.logged_files.Goals as goal
 
 pub returns-clause-ends : goal.returns-clause-ends
-returns-clause-ends c = λ how number lines after link bytes text answer is. text-ends how number lines link bytes text after answer is
+returns-clause-ends c = λ how number lines after part bytes text answer is. text-ends how number lines part bytes text after answer is
 
 pub returns-clause-says : goal.returns-clause-says
 returns-clause-says c = λ how number lines after file text answer records good is says.
@@ -12,4 +12,4 @@ returns-clause-says c = λ how number lines after file text answer records good 
     file-records (record {
       right = c.packet_bytes.ensures.right;
       fault = c.packet_bytes.ensures.fault;
-    }) c.names.ensures.exact c.address_texts.ensures.exact how number lines file text after answer records good is reads
+    }) c.one_origin.ensures.some c.names.ensures.exact c.address_texts.ensures.exact how number lines file text after answer records good is reads

@@ -26,7 +26,7 @@ log_word-back-requires g c =
     let words = c.args.words.now in
     let i = c.loop-i.i in
     let fine = c.requires.fine i (below words i c.loop-i-test.true) in
-    (record { link = fine.link; bytes = [] }, (fine.path, subst (λ w. IsCaptureWord w fine.link fine.path) (text-at words i) fine.names))
+    (record { part = fine.part; bytes = [] }, (fine.path, subst (λ w. IsCaptureWord w fine.part fine.path) (text-at words i) fine.names))
 
 pub returns-then-ends_log-clause-log : goal.returns-then-ends_log-clause-log
 returns-then-ends_log-clause-log g c = λ files are wrote.

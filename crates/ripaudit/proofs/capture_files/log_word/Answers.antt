@@ -1,11 +1,12 @@
 use Rattle.std.proofs.Common.{◌≡◌, [], ◌∷◌, ◌++◌, ◌∙◌, sym, subst, append-nil}
 use Rattle.std.specs.Prelude.{IfNone, IfSome}
 use Rattle.rip_report.specs.CaptureLogs.{GoesOn}
+use Rattle.rip_report.specs.Selections.{Part}
 use Rattle.ripaudit.proofs.FileLemmas.{failed-goes, given-if, kept-more}
 use Rattle.ripaudit.proofs.capture_files.log_word.Goals as goal
 
 pub unreachable-requires : goal.unreachable-requires
-unreachable-requires g c = let (file, (path, is)) = c.requires in c.in_default.ensures.found file.link path is
+unreachable-requires g c = let (file, (path, is)) = c.requires in c.in_default.ensures.found file.part path is
 
 pub returns-then-is_err-clause-goes_on : goal.returns-then-is_err-clause-goes_on
 returns-then-is_err-clause-goes_on g c = λ file named given files text is wrote.
@@ -21,9 +22,9 @@ returns-clause-goes_on g c = λ file named given files text is wrote.
     let all = c.keep.new.sources.items in
     let source = c.log_file-source.result.0 in
     let some = subst (λ l. IfSome source (λ s. all ≡ l ++ s ∷ [])) c.reserve.ensures.items c.keep.ensures.some in
-    let link = (c.in-Some.ensures.found file.link named.0 named.1).0 in
-    let (part, took, goes) = c.log_file-source.ensures.goes_on file.bytes (given-if source old all file.bytes some given) files text is wrote in
-    (part, took, subst (λ l. GoesOn c.log_file-source.new.log (files ++ record { link = l; bytes = file.bytes } ∷ []) (text ++ part) c.log_file-source.result.2) link goes)
+    let part = (c.in-Some.ensures.found file.part named.0 named.1).0 in
+    let (more, took, goes) = c.log_file-source.ensures.goes_on file.bytes (given-if source old all file.bytes some given) files text is wrote in
+    (more, took, subst (λ (p : Part). GoesOn c.log_file-source.new.log (files ++ record { part = p; bytes = file.bytes } ∷ []) (text ++ more) c.log_file-source.result.2) part goes)
 
 pub returns-clause-kept : goal.returns-clause-kept
 returns-clause-kept g c =

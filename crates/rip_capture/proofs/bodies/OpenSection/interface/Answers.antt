@@ -20,4 +20,4 @@ returns-else-name-eq0 c =
     let items = c.args.self.now.interfaces.items in
     let here : k < length all = subst (λ (l : List Interface). k < length l) (sym c.deref.ensures.0) c.requires in
     let i = get_or all k blank in
-    ap (λ n. Named (take n i.name.bytes)) c.min.ensures ∙ with_name i k c.if-name-eq0.false ∙ ap (λ o. named o k) (sym (slice_get-get_or all k blank here)) ∙ ap (λ l. came_by l k) c.deref.ensures.0
+    with_name i k c.if-name-eq0.false ∙ ap (λ o. named o k) (sym (slice_get-get_or all k blank here)) ∙ ap (λ l. came_by l k) c.deref.ensures.0

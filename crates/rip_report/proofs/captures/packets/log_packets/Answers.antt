@@ -1,14 +1,16 @@
-use Rattle.std.proofs.Common.{◌≡◌, ◌∙◌, ◌+◌, ◌++◌, ◌∷◌, [], List, ap, append-nil, arith, inl, inr, length, map, refl, sym, subst}
+use Rattle.std.proofs.Common.{◌≡◌, ◌≤◌, ◌∙◌, ◌+◌, ◌++◌, ◌∷◌, [], List, Option, None, ap, append-nil, arith, inl, inr, length, map, refl, sym, subst}
 use Rattle.std.proofs.lemmas.Bool.{false≢true}
 use Rattle.std.proofs.lemmas.List.{length-map}
 use Rattle.rip_log.proofs.WholeLemmas.{went_nowhere, went_on}
 use Rattle.rip_capture.specs.NextCall.{Stands, TakesPacket, frame_of, place_of, position_of, section_by, source_of}
 use Rattle.rip_capture.specs.Pcap.{Frame}
 use Rattle.rip_capture.specs.declared.error.CaptureCode.TheVariants.{Read}
-use Rattle.rip_report.specs.CapturePackets.{ended_at}
-use Rattle.rip_report.specs.CaptureText.{Carrier, IsCarrier, counted, omitted_of}
+use Rattle.rip_report.specs.CapturePackets.{Keeps, ended_at}
+use Rattle.rip_capture.specs.Origins.{origin_in}
+use Rattle.rip_report.specs.CaptureText.{counted, omitted_of}
+use Rattle.rip_report.specs.Selections.{Carrier, choice_of, first_behind}
 use Rattle.rip_report.specs.Outs.{IsOnItsWay, Progress}
-use Rattle.rip_report.proofs.CaptureLemmas.{adds-packet, all-snoc, counts-snoc, ends-at, ends-by, far, stops-far, frames-snoc, has-room, line_count-snoc, never-unread, read-is_unread, unread-is_read}
+use Rattle.rip_report.proofs.CaptureLemmas.{adds-packet, all-last, carriers-snoc, counts-snoc, first-snoc, keeps-none, ends-at, ends-by, far, stops-far, frames-snoc, has-room, line_count-snoc, never-unread, read-is_unread, unread-is_read}
 use Rattle.rip_report.proofs.OutLemmas.{adds_none, way_after}
 use Rattle.rip_report.proofs.captures.packets.log_packets.Goals as goal
 
@@ -17,7 +19,8 @@ packets-init g c =
     let S = g.R.Source in
     record {
       carriers = [];
-      carry = tt;
+      are = record { carry = tt; logged = tt };
+      keeps = keeps-none (choice_of c.args.part.now.packets) c.args.first.now c.requires.first;
       taken = [];
       stands = c.requires.front;
       counts = c.new.ensures c.args.authentication;
@@ -34,6 +37,18 @@ packets-init g c =
 pub log_packet-requires-clause-room : goal.log_packet-requires-clause-room
 log_packet-requires-clause-room g c = has-room c.args.authentication c.packets.tally.counts c.packets.invariant.carriers c.packets.invariant.counts c.packets-test.true
 
+pub log_packet-requires-clause-short : goal.log_packet-requires-clause-short
+log_packet-requires-clause-short g c =
+    let S = g.R.Source in
+    let inv = c.packets.invariant in
+    let now = c.next.follows.lender-at-none in
+    let h = rw (c.in-Ok-Some.is, c.in-Ok-Some.field-0-is) at c.next.follows.holds-at-none in
+    let runs = h.runs inv.running in
+    let packet = c.in-Ok-Some.packet in
+    let before = S.given (source_of c.args.reader.now) in
+    let goes : TakesPacket S.given before (map (λ c. c.frame) inv.carriers) (frame_of packet) (place_of packet) now = runs.goes before inv.taken (map (λ c. c.frame) inv.carriers) inv.stands in
+    all-last (λ (f : Frame). length f.bytes ≤ 262144) (map (λ c. c.frame) inv.carriers) (frame_of packet) (c.short_packets.ensures (goes.front ++ goes.bytes) _ goes.longer)
+
 pub packets-preserved : goal.packets-preserved
 packets-preserved g c =
     let S = g.R.Source in
@@ -43,17 +58,21 @@ packets-preserved g c =
     let runs = h.runs inv.running in
     let packet = c.in-Ok-Some.packet in
     let before = S.given (source_of c.args.reader.now) in
-    let goes : TakesPacket S.given before (map (λ c. c.frame) inv.carriers) (frame_of packet) (place_of packet) now = runs.goes before inv.taken (map (λ c. c.frame) inv.carriers) inv.stands in
-    let logs = rw c.if-not-log_packet.false at c.log_packet.ensures.logs in
-    let p : Carrier = record { frame = frame_of packet; carried = c.log_packet.ensures.carried } in
+    let did = c.log_packet.ensures (first_behind None inv.carriers) inv.keeps in
+    let p = did.carrier in
+    let goes : TakesPacket S.given before (map (λ c. c.frame) inv.carriers) p.frame (place_of packet) now =
+        subst (λ (f : Frame). TakesPacket S.given before (map (λ c. c.frame) inv.carriers) f (place_of packet) now) (sym did.frame_is) (runs.goes before inv.taken (map (λ c. c.frame) inv.carriers) inv.stands) in
+    let are = carriers-snoc (choice_of c.args.part.now.packets) inv.carriers p inv.are did.carries did.logged in
+    let logs = rw c.if-not-log_packet.false at did.logs in
     let cs = inv.carriers in
-    let adds = adds-packet c.args.authentication c.args.link.now cs p inv.adds logs.adds in
+    let adds = adds-packet c.args.authentication c.args.part.now.link.now cs p inv.adds logs.adds in
     record {
       carriers = cs ++ p ∷ [];
-      carry = all-snoc IsCarrier cs p inv.carry c.log_packet.ensures.carries;
+      are = are;
+      keeps = subst (λ (o : Option Frame). Keeps (choice_of c.args.part.now.packets) o (origin_in c.log_packet.new.first)) (sym (first-snoc None cs p)) did.keeps;
       taken = goes.front ++ goes.bytes;
       stands = subst (λ (fs : List Frame). Stands S.given before now (goes.front ++ goes.bytes) fs) (sym (frames-snoc cs p)) goes.stands;
-      counts = logs.counts ∙ ap (λ n. counted n p.carried (omitted_of c.args.authentication p.frame.bytes p.carried)) inv.counts ∙ sym (counts-snoc c.args.authentication cs p);
+      counts = logs.counts ∙ ap (λ n. counted n p.logged (omitted_of c.args.authentication p.frame.bytes p.logged)) inv.counts ∙ sym (counts-snoc c.args.authentication cs p);
       lines = omega (arith, logs.lines, inv.lines, line_count-snoc cs p);
       few = logs.few;
       adds = adds;
@@ -66,7 +85,9 @@ packets-preserved g c =
 
 pub packets-smaller : goal.packets-smaller
 packets-smaller g c =
-    let logs = rw c.if-not-log_packet.false at c.log_packet.ensures.logs in
+    let inv = c.packets.invariant in
+    let did = c.log_packet.ensures (first_behind None inv.carriers) inv.keeps in
+    let logs = rw c.if-not-log_packet.false at did.logs in
     let more : c.log_packet.new.tally.counts.packets ≡ c.packets.tally.counts.packets + 1 = ap (λ n. n.packets) logs.counts in
     omega (arith, more, c.packets-test.true)
 
@@ -79,15 +100,18 @@ returns-then-not-log_packet g c =
     let runs = h.runs inv.running in
     let packet = c.in-Ok-Some.packet in
     let before = S.given (source_of c.args.reader.now) in
-    let goes : TakesPacket S.given before (map (λ c. c.frame) inv.carriers) (frame_of packet) (place_of packet) now = runs.goes before inv.taken (map (λ c. c.frame) inv.carriers) inv.stands in
-    let lacks = rw c.if-not-log_packet.true at c.log_packet.ensures.logs in
-    let p : Carrier = record { frame = frame_of packet; carried = c.log_packet.ensures.carried } in
+    let did = c.log_packet.ensures (first_behind None inv.carriers) inv.keeps in
+    let p = did.carrier in
+    let goes : TakesPacket S.given before (map (λ c. c.frame) inv.carriers) p.frame (place_of packet) now =
+        subst (λ (f : Frame). TakesPacket S.given before (map (λ c. c.frame) inv.carriers) f (place_of packet) now) (sym did.frame_is) (runs.goes before inv.taken (map (λ c. c.frame) inv.carriers) inv.stands) in
+    let are = carriers-snoc (choice_of c.args.part.now.packets) inv.carriers p inv.are did.carries did.logged in
+    let lacks = rw c.if-not-log_packet.true at did.logs in
     record {
       carriers = inv.carriers;
-      carry = inv.carry;
+      are = inv.are;
       few = omega (arith, inv.lines, inv.few);
       adds = rw lacks.text inv.adds;
-      ends = (omega (arith, inv.lines, lacks.many), inl (p, c.log_packet.ensures.carries, goes, lacks.line));
+      ends = (omega (arith, inv.lines, lacks.many), inl (p, are, goes, lacks.line));
       went = went_on S.given S.coming S.at_end (source_of c.args.reader.now) (source_of c.packets.reader) (source_of now) inv.went runs.moves.went;
       unread = λ e. cc e;
       marks = λ e. runs.moves.marks refl ∙ inv.marks;
@@ -103,15 +127,18 @@ returns-then-has_failed g c =
     let runs = h.runs inv.running in
     let packet = c.in-Ok-Some.packet in
     let before = S.given (source_of c.args.reader.now) in
-    let goes : TakesPacket S.given before (map (λ c. c.frame) inv.carriers) (frame_of packet) (place_of packet) now = runs.goes before inv.taken (map (λ c. c.frame) inv.carriers) inv.stands in
-    let logs = rw c.if-not-log_packet.false at c.log_packet.ensures.logs in
-    let p : Carrier = record { frame = frame_of packet; carried = c.log_packet.ensures.carried } in
+    let did = c.log_packet.ensures (first_behind None inv.carriers) inv.keeps in
+    let p = did.carrier in
+    let goes : TakesPacket S.given before (map (λ c. c.frame) inv.carriers) p.frame (place_of packet) now =
+        subst (λ (f : Frame). TakesPacket S.given before (map (λ c. c.frame) inv.carriers) f (place_of packet) now) (sym did.frame_is) (runs.goes before inv.taken (map (λ c. c.frame) inv.carriers) inv.stands) in
+    let are = carriers-snoc (choice_of c.args.part.now.packets) inv.carriers p inv.are did.carries did.logged in
+    let logs = rw c.if-not-log_packet.false at did.logs in
     let cs = inv.carriers in
     record {
       carriers = cs ++ p ∷ [];
-      carry = all-snoc IsCarrier cs p inv.carry c.log_packet.ensures.carries;
+      are = are;
       few = omega (arith, logs.lines, inv.lines, line_count-snoc cs p, logs.few);
-      adds = adds-packet c.args.authentication c.args.link.now cs p inv.adds logs.adds;
+      adds = adds-packet c.args.authentication c.args.part.now.link.now cs p inv.adds logs.adds;
       ends = (
         sym c.has_failed.ensures.failed ∙ c.if-has_failed.true,
         (goes.front ++ goes.bytes, subst (λ (fs : List Frame). Stands S.given before now (goes.front ++ goes.bytes) fs) (sym (frames-snoc cs p)) goes.stands),
@@ -135,10 +162,10 @@ returns-in-Ok-None g c =
     let known = c.ended_at.ensures ∙ ap (ended_at tally) c.position.ensures in
     rw known (record {
       carriers = inv.carriers;
-      carry = inv.carry;
+      are = inv.are;
       few = omega (arith, inv.lines, inv.few);
       adds = inv.adds;
-      ends = ends-at S.given S.at_end c.args.authentication before c.args.lines inv.carriers now c.packets.out tally here inv.counts inv.lines inv.few;
+      ends = ends-at S.given S.at_end c.args.authentication (choice_of c.args.part.now.packets) before c.args.lines inv.carriers now c.packets.out tally here inv.counts inv.lines inv.few;
       went = went_on S.given S.coming S.at_end (source_of c.args.reader.now) (source_of c.packets.reader) (source_of now) inv.went runs.moves.went;
       unread = λ e. absurd (never-unread tally (position_of now) e);
       marks = λ e. runs.moves.marks refl ∙ inv.marks;
@@ -154,10 +181,10 @@ returns-in-Err g c =
     let runs = h.runs inv.running in
     let before = S.given (source_of c.args.reader.now) in
     let goes = runs.goes before inv.taken (map (λ c. c.frame) inv.carriers) inv.stands in
-    let ends = ends-by S.given S.at_end c.args.authentication before c.args.lines inv.carriers now c.packets.out c.in-Err.error.code c.in-Err.error.at goes in
+    let ends = ends-by S.given S.at_end c.args.authentication (choice_of c.args.part.now.packets) before c.args.lines inv.carriers now c.packets.out c.in-Err.error.code c.in-Err.error.at goes in
     rw c.ended_by.ensures (record {
       carriers = inv.carriers;
-      carry = inv.carry;
+      are = inv.are;
       few = omega (arith, inv.lines, inv.few);
       adds = inv.adds;
       ends = ends;
@@ -178,7 +205,7 @@ returns g c =
     (omega (arith, many, length-map inv.carriers (λ (c : Carrier). c.frame), c.packets-test.false)) in
     record {
       carriers = inv.carriers;
-      carry = inv.carry;
+      are = inv.are;
       few = omega (arith, inv.lines, inv.few);
       adds = inv.adds;
       ends = (

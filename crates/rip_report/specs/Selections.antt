@@ -1,0 +1,109 @@
+-- Which packets of a capture file are its link's, and what a log has of each.
+use Rattle.std.specs.Prelude.{◌≡◌, ◌⊎◌, ℕ, true, if◌then◌else◌, List, [], ◌∷◌, Option, Some, None, is_some}
+use Rattle.rip_capture.specs.Carries.{Carries}
+use Rattle.rip_capture.specs.Interfaces.{Named}
+use Rattle.rip_capture.specs.Origins.{IsOrigin, Origin}
+use Rattle.rip_capture.specs.Pcap.{Frame}
+use Rattle.rip_capture.specs.Vlans.{HasVlans}
+use Rattle.rip_capture.specs.declared.packet.Carried.{Carried}
+use Rattle.rip_capture.specs.declared.packet.Carried.TheVariants.{Datagram, Cut, Fragment, Malformed, Long, Unknown, Elsewhere, Others}
+use Rattle.rip_report.specs.declared.captures.logged.Logged.{Logged}
+use Rattle.rip_report.specs.declared.captures.logged.Logged.TheVariants.{As, Mixed}
+use Rattle.rip_report.specs.declared.captures.part.FilePart.{FilePart}
+use Rattle.rip_report.specs.declared.captures.part.Selection.{Selection}
+use Rattle.rip_report.specs.declared.captures.part.Selection.TheVariants as given
+
+-- the packets of a file that are its link's: all, which have to come from one place; or those of an
+-- interface, where a name is given, and of just these VLANs, where there are any
+pub data Choice : Type 0 where
+  OneOrigin : Choice
+  Of : List ℕ → List ℕ → Choice
+
+abbrev pub choice_of : Selection → Choice
+choice_of given.OneOrigin = OneOrigin
+choice_of (given.Of name vlans) = Of name.now vlans.now
+
+-- a link, and which packets of a file are its own
+pub record Part : Type 0 where
+  pub link : List ℕ
+  pub choice : Choice
+
+abbrev pub part_of : FilePart → Part
+part_of part = record { link = part.link.now; choice = choice_of part.packets }
+
+-- a packet, what it carries, and what a log has of it
+pub record Carrier : Type 0 where
+  pub frame : Frame
+  pub carried : Carried
+  pub logged : Logged
+
+-- it carries that
+abbrev pub IsCarrier : Carrier → Type 0
+IsCarrier c = Carries c.frame.link_type c.frame.bytes c.carried
+
+-- ---- where packets come from
+
+-- the sender of a datagram to 224.0.0.9
+abbrev pub sender_of : Carried → Option ℕ
+sender_of (Datagram sender span) = Some sender
+sender_of (Cut sender) = Some sender
+sender_of (Fragment sender) = Some sender
+sender_of (Malformed sender) = Some sender
+sender_of (Long sender) = Some sender
+sender_of Unknown = None
+sender_of Elsewhere = None
+sender_of Others = None
+
+-- two packets come from one place
+pub record HaveOneOrigin (p q : Frame) : Type 0 where
+  pub origin : Origin
+  pub first : IsOrigin p origin
+  pub second : IsOrigin q origin
+
+-- a packet came by the interface of this name, where one is given
+abbrev pub OfInterface : List ℕ → Frame → Type 0
+OfInterface [] p = Unit {0}
+OfInterface (c ∷ name) p = p.interface ≡ Named (c ∷ name)
+
+-- it has just these VLANs, where there are any
+abbrev pub OfVlans : List ℕ → Frame → Type 0
+OfVlans [] p = Unit {0}
+OfVlans (vlan ∷ vlans) p = HasVlans p.link_type p.bytes (vlan ∷ vlans)
+
+-- a packet is its link's: it comes from where the first one came whose sender is known; or it is of
+-- the interface and the VLANs that are asked for, but of one that is cut before its end the tags
+-- may not be there
+abbrev pub Belongs : Choice → Option Frame → Frame → Carried → Type 0
+Belongs OneOrigin None p carried = Unit {0}
+Belongs OneOrigin (Some first) p carried =
+    is_some (sender_of carried) ≡ true → HaveOneOrigin first p
+Belongs (Of name vlans) first p carried =
+    OfInterface name p × ((carried ≡ Unknown) ⊎ OfVlans vlans p)
+
+-- ---- what a log has of packets
+
+-- what a log has of a packet, behind the first one whose sender is known: what it carries; or that
+-- it comes from elsewhere than that one; or nothing
+pub data IsLogged (choice : Choice) (first : Option Frame) (c : Carrier) : Type 0 where
+  own : Belongs choice first c.frame c.carried → c.logged ≡ As c.carried →
+      IsLogged choice first c
+  mixed : (sender : ℕ) → choice ≡ OneOrigin → ¬ Belongs choice first c.frame c.carried →
+      sender_of c.carried ≡ Some sender → c.logged ≡ Mixed sender → IsLogged choice first c
+  other : (name vlans : List ℕ) → choice ≡ Of name vlans →
+      ¬ Belongs choice first c.frame c.carried → c.logged ≡ As Others → IsLogged choice first c
+
+-- the first packet whose sender is known, behind one more
+abbrev pub first_with : Option Frame → Frame → Carried → Option Frame
+first_with (Some first) p carried = Some first
+first_with None p carried = if is_some (sender_of carried) then Some p else None
+
+-- what a log has of packets, one after the other
+abbrev pub AreLogged : Choice → Option Frame → List Carrier → Type 0
+AreLogged choice first [] = Unit {0}
+AreLogged choice first (c ∷ carriers) =
+    IsLogged choice first c × AreLogged choice (first_with first c.frame c.carried) carriers
+
+-- the first packet whose sender is known, behind these
+abbrev pub first_behind : Option Frame → List Carrier → Option Frame
+first_behind first [] = first
+first_behind first (c ∷ carriers) = first_behind (first_with first c.frame c.carried) carriers
