@@ -1,6 +1,5 @@
 -- From the parts of a run to what it adds of a file to a log.
 use Rattle.std.proofs.Common.{◌≡◌, ◌≢◌, ◌⊎◌, ◌+◌, ◌^◌, ◌≤◌, ◌∙◌, ℕ, Bool, true, Option, List, [], ◌∷◌, ◌++◌, Result, Ok, Err, length, map, ap, sym, refl, inl, inr, is_err, subst, arith, append_assoc, append-nil}
-use Rattle.std.specs.List.{AllByRecursion}
 use Rattle.std.proofs.lemmas.Bool.{false≢true}
 use Rattle.std.proofs.lemmas.List.{append_cancel_left, length-append}
 use Rattle.rip_log.specs.Taken.{Taken, Took}
@@ -38,7 +37,7 @@ use Rattle.rip_report.specs.declared.status.RunError.{RunError}
 use Rattle.rip_report.specs.declared.status.RunError.TheVariants.{Memory, Read, Write}
 use Rattle.rip_report.specs.declared.status.Status.{Status}
 use Rattle.rip_report.specs.declared.status.Status.TheVariants.{Done, Refused as RefusedFile, Settled, Unclear, Unsettled}
-use Rattle.rip_report.proofs.CaptureLemmas.{all-snoc, frames-snoc, length-snoc}
+use Rattle.rip_report.proofs.CaptureLemmas.{frames-snoc, length-snoc}
 
 -- a fault is one whatever follows, but for a cut
 abbrev Early : Type 0

@@ -22,7 +22,6 @@ use Rattle.rip_capture.specs.Packets.{source}
 use Rattle.rip_capture.specs.Passwords.{has_password, password_end, without_password}
 use Rattle.rip_log.specs.Spans.{slice_of}
 use Rattle.rip_capture.specs.declared.link.LinkType.{LinkType}
-use Rattle.rip_capture.specs.declared.packet.Carried.{Carried}
 use Rattle.rip_capture.specs.declared.packet.Carried.TheVariants.{Datagram, Cut, Fragment, Malformed, Long, Unknown, Elsewhere, Others}
 use Rattle.rip_log.specs.declared.span.Span.{Span}
 use Rattle.rip_capture.proofs.ByteLemmas.{all-drop}

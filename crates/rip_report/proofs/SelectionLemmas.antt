@@ -1,5 +1,5 @@
 -- Which packets of a capture file are its link's.
-use Rattle.std.proofs.Common.{◌≡◌, ◌^◌, ◌<◌, ◌∙◌, ℕ, true, List, [], ◌∷◌, Option, Some, None, is_some, ap, inl, inr, refl, subst, sym}
+use Rattle.std.proofs.Common.{◌≡◌, ◌∙◌, ℕ, true, List, [], ◌∷◌, Option, Some, None, is_some, ap, inl, inr, refl, subst, sym}
 use Rattle.std.specs.List.{AllByRecursion}
 use Rattle.rip_capture.specs.Carries.{Carries}
 use Rattle.rip_capture.specs.Origins.{IsOrigin, Origin}

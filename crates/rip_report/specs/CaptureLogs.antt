@@ -78,7 +78,7 @@ pub data FileText (how : Authentication) (number lines : ℕ) (part : Part) (b t
   whole : (carriers : List Carrier) → IsCaptureOf part.choice b carriers →
       after ≡ lines + line_count carriers + 1 → after ≤ MOST_LINES →
       text ≡ packet_lines how part.link carriers
-          ++ comment_line number part.link (counts_of how carriers) →
+      ++ comment_line number part.link (counts_of how carriers) →
       answer ≡ Ok (counted_status (counts_of how carriers)) →
       FileText how number lines part b text after answer
   refused : (carriers : List Carrier) (code : RefusalCode) (at : ℕ) →

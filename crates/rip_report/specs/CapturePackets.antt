@@ -1,14 +1,11 @@
 -- What the parts of a run leave that adds a file to a log.
 use Rattle.std.specs.Prelude.{◌≡◌, ◌≢◌, ◌⊎◌, ℕ, ◌+◌, ◌<◌, ◌≤◌, ◌++◌, ◌∷◌, [], ◌==◌, if◌then◌else◌, Bool, true, false, List, map, codes, Option, Some, None, Result, Ok, Err}
-use Rattle.std.specs.List.{AllByRecursion}
 use Rattle.rip_log.specs.declared.limits.TheConstants.{MOST_LINES}
 use Rattle.rip_log.specs.Wholes.{Went}
-use Rattle.rip_capture.specs.Carries.{Carries}
 use Rattle.rip_capture.specs.Codes.{is_read}
 use Rattle.rip_capture.specs.NextCall.{EndsHere, IsFar, Stands, StopsAt, TakesPacket, position_of, source_of}
 use Rattle.rip_capture.specs.Pcap.{Frame}
 use Rattle.rip_capture.specs.declared.error.CaptureError.{CaptureError}
-use Rattle.rip_capture.specs.declared.packet.Carried.{Carried}
 use Rattle.rip_capture.specs.declared.reader.CaptureReader.{CaptureReader}
 use Rattle.rip_report.specs.CaptureText.{AreCarriers, comment_line, counted, counted_status, counts_of, file_refusal_line, has_line, line_count, logged_line, omitted_of, one, packet_lines}
 use Rattle.rip_report.specs.Selections.{Carrier, Choice, IsCarrier, IsLogged, Of, OneOrigin, Part, first_with}

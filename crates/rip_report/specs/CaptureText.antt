@@ -192,7 +192,7 @@ pub record HasRoom (n : PacketCounts) : Type 0 where
 abbrev pub counted_status : PacketCounts → Status
 counted_status n =
     if n.cut == 0
-        && (n.fragments == 0 && (n.malformed == 0 && (n.long == 0 && n.mixed == 0)))
+    && (n.fragments == 0 && (n.malformed == 0 && (n.long == 0 && n.mixed == 0)))
     then Done
     else Unclear
 

@@ -1,7 +1,6 @@
-use Rattle.std.proofs.Common.{◌∙◌, ◌≡◌, ap, arith, refl, sym, true, false}
+use Rattle.std.proofs.Common.{◌∙◌, ◌≡◌, ap, arith, refl, sym}
 use Rattle.rip_capture.specs.NextCall.{frame_of}
 use Rattle.rip_report.specs.CaptureText.{counted, has_line, one}
-use Rattle.rip_report.specs.Selections.{Carrier}
 use Rattle.rip_report.specs.declared.captures.tally.Tally.{Tally}
 use Rattle.rip_report.proofs.captures.packets.log_packet.Goals as goal
 use Rattle.rip_report.proofs.captures.packets.log_packet.Goals.{then-has_line+else-tally-ge-MOST_LINES, else-has_line}

@@ -61,7 +61,7 @@ packets-preserved g c =
     let did = c.log_packet.ensures (first_behind None inv.carriers) inv.keeps in
     let p = did.carrier in
     let goes : TakesPacket S.given before (map (λ c. c.frame) inv.carriers) p.frame (place_of packet) now =
-        subst (λ (f : Frame). TakesPacket S.given before (map (λ c. c.frame) inv.carriers) f (place_of packet) now) (sym did.frame_is) (runs.goes before inv.taken (map (λ c. c.frame) inv.carriers) inv.stands) in
+    subst (λ (f : Frame). TakesPacket S.given before (map (λ c. c.frame) inv.carriers) f (place_of packet) now) (sym did.frame_is) (runs.goes before inv.taken (map (λ c. c.frame) inv.carriers) inv.stands) in
     let are = carriers-snoc (choice_of c.args.part.now.packets) inv.carriers p inv.are did.carries did.logged in
     let logs = rw c.if-not-log_packet.false at did.logs in
     let cs = inv.carriers in
@@ -103,7 +103,7 @@ returns-then-not-log_packet g c =
     let did = c.log_packet.ensures (first_behind None inv.carriers) inv.keeps in
     let p = did.carrier in
     let goes : TakesPacket S.given before (map (λ c. c.frame) inv.carriers) p.frame (place_of packet) now =
-        subst (λ (f : Frame). TakesPacket S.given before (map (λ c. c.frame) inv.carriers) f (place_of packet) now) (sym did.frame_is) (runs.goes before inv.taken (map (λ c. c.frame) inv.carriers) inv.stands) in
+    subst (λ (f : Frame). TakesPacket S.given before (map (λ c. c.frame) inv.carriers) f (place_of packet) now) (sym did.frame_is) (runs.goes before inv.taken (map (λ c. c.frame) inv.carriers) inv.stands) in
     let are = carriers-snoc (choice_of c.args.part.now.packets) inv.carriers p inv.are did.carries did.logged in
     let lacks = rw c.if-not-log_packet.true at did.logs in
     record {
@@ -130,7 +130,7 @@ returns-then-has_failed g c =
     let did = c.log_packet.ensures (first_behind None inv.carriers) inv.keeps in
     let p = did.carrier in
     let goes : TakesPacket S.given before (map (λ c. c.frame) inv.carriers) p.frame (place_of packet) now =
-        subst (λ (f : Frame). TakesPacket S.given before (map (λ c. c.frame) inv.carriers) f (place_of packet) now) (sym did.frame_is) (runs.goes before inv.taken (map (λ c. c.frame) inv.carriers) inv.stands) in
+    subst (λ (f : Frame). TakesPacket S.given before (map (λ c. c.frame) inv.carriers) f (place_of packet) now) (sym did.frame_is) (runs.goes before inv.taken (map (λ c. c.frame) inv.carriers) inv.stands) in
     let are = carriers-snoc (choice_of c.args.part.now.packets) inv.carriers p inv.are did.carries did.logged in
     let logs = rw c.if-not-log_packet.false at did.logs in
     let cs = inv.carriers in
