@@ -6,7 +6,7 @@ ghost use Rattle.rip_wire.specs.Fields.{number_at};
 ghost use Rattle.rip_capture.specs.Codes.{is_unread};
 ghost use Rattle.rip_log.specs.Feeds.{held};
 ghost use Rattle.rip_capture.specs.Feeds.{Extends, Keeps, Skips};
-ghost use Rattle.rip_capture.specs.Finds.{FindsBlock, FindsNextBlock, FindsNextOrder, FindsOrder, HoldsBlock, HoldsWhole, SaysFront};
+ghost use Rattle.rip_capture.specs.Finds.{FindsBlock, FindsNextBlock, FindsNextOrder, FindsOrder, HoldsBlock, HoldsPacketBlock, HoldsWhole, SaysFront};
 ghost use Rattle.rip_capture.specs.Pcapng.{HasLength, HasOrder, begins_section, block_len, front_len, is_read_whole, kind_numbered, kind_of, least_len, order_number};
 
 use crate::error::CaptureCode;
@@ -310,5 +310,18 @@ pub(crate) fn next_block<R: Source>(
             Ok(block) => Ok(Some(block)),
             Err(code) => Err(code),
         },
+    }
+}
+
+/// Whether a whole block of a packet is held, in a section of a byte order.
+pub(crate) fn holds_packet(order: Order, held: &[u8]) -> bool
+    ensures { result ≡ true → HoldsPacketBlock (Some order) held.now }
+{
+    if held.len() < SECTION_FRONT {
+        return false;
+    }
+    match block_front(order, held) {
+        Ok((BlockKind::Packet(_), len)) => len <= held.len(),
+        Ok(_) | Err(_) => false,
     }
 }

@@ -21,8 +21,9 @@ ghost use Rattle.rip_wire.specs.declared.limits.TheConstants.{HEADER_LEN};
 use crate::authentication::{DATA_LEN_AT, DIGEST, ENTRIES_FROM, TRAILER, TRAILER_HEADER};
 use crate::frame::{IPV4, LOOP_HEADER, LOOP_IPV4, TAG};
 use crate::limits::{
-    BLOCK_FRONT, FILE_HEADER, GROUP, IP_HEADER, MAGIC_LEN, MOST_BLOCK, MOST_CAPTURED,
-    MOST_INTERFACES, MOST_PAYLOAD, PORT, RECORD_HEADER, SECTION, SECTION_FRONT, UDP, UDP_HEADER,
+    BILLIONTHS, BLOCK_FRONT, FILE_HEADER, GROUP, IP_HEADER, MAGIC_LEN, MILLIONTHS, MOST_BLOCK,
+    MOST_CAPTURED, MOST_INTERFACES, MOST_NAME, MOST_PAYLOAD, MOST_VLANS, PORT, RECORD_HEADER,
+    SECTION, SECTION_FRONT, UDP, UDP_HEADER,
 };
 use crate::password::{AUTHENTICATION, PASSWORD, PASSWORD_FROM, PASSWORD_TO};
 
@@ -45,21 +46,26 @@ pub fn frame_numbers()
     ensures loop_ipv4 { LOOP_IPV4 ≡ 2 }
 {}
 
-/// The sizes of a file's parts, and the most bytes of a packet.
+/// The sizes of a file's parts, the most bytes of a packet, and the units of times.
 pub fn file_limits()
     ensures magic { MAGIC_LEN ≡ 4 }
     ensures file_header { FILE_HEADER ≡ 24 }
     ensures record_header { RECORD_HEADER ≡ 16 }
     ensures captured { MOST_CAPTURED ≡ 262144 }
+    ensures vlans { MOST_VLANS ≡ 65536 }
+    ensures millionths { MILLIONTHS ≡ 6 }
+    ensures billionths { BILLIONTHS ≡ 9 }
 {}
 
-/// The numbers and the sizes of the blocks of a pcapng file, and the most interfaces of a section.
+/// The numbers and the sizes of the blocks of a pcapng file, the most interfaces of a section, and
+/// the most bytes of an interface's name.
 pub fn block_limits()
     ensures section { SECTION ≡ 0x0A0D0D0A }
     ensures front { BLOCK_FRONT ≡ 8 }
     ensures section_front { SECTION_FRONT ≡ 12 }
     ensures most { MOST_BLOCK ≡ 524288 }
     ensures interfaces { MOST_INTERFACES ≡ 256 }
+    ensures name { MOST_NAME ≡ 64 }
 {}
 
 /// The numbers of an authentication, and the sizes of what has it.

@@ -1,6 +1,6 @@
 //! The header and the records of a pcap file (draft-ietf-opsawg-pcap).
 
-ghost use Rattle.std.specs.Prelude.{◌≡◌, ◌<◌, ◌≤◌, [], Ok, None, true, false, length};
+ghost use Rattle.std.specs.Prelude.{◌≡◌, ◌<◌, ◌≤◌, [], Decides, Ok, None, true, false, length};
 ghost use Rattle.rip_log.specs.Wholes.{Went};
 ghost use Rattle.rip_capture.specs.Codes.{is_unread};
 ghost use Rattle.rip_log.specs.Feeds.{held};
@@ -126,4 +126,11 @@ pub(crate) fn next_record<R: Source>(
     }
     parts.hold(RECORD_HEADER + captured)?;
     Ok(Some(captured))
+}
+
+/// Whether a whole record is held.
+pub(crate) fn holds_record(order: Order, held: &[u8]) -> bool
+    ensures { Decides result (HoldsRecord order held.now) }
+{
+    RECORD_HEADER <= held.len() && number_in(order, held, 8) as usize <= held.len() - RECORD_HEADER
 }

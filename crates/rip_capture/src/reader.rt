@@ -4,7 +4,7 @@ ghost use Rattle.std.specs.Prelude.{◌≡◌, ◌≢◌, ◌<◌, ◌≤◌, �
 ghost use Rattle.std.specs.Borrow.{sem};
 ghost use Rattle.std.specs.Io.BufRead.{Rests};
 
-use crate::blocks::{Block, BlockKind, PacketForm, first_block, next_block};
+use crate::blocks::{Block, BlockKind, PacketForm, first_block, holds_packet, next_block};
 use crate::bodies::{Body, OpenSection, read_body};
 use crate::error::{CaptureCode, CaptureError};
 use crate::interface::FileInterface;
@@ -13,7 +13,7 @@ use crate::link::LinkType;
 use crate::magic::{Magic, next_magic};
 use crate::numbers::Order;
 use crate::parts::Parts;
-use crate::pcap::{PcapHeader, next_header, next_record, record_time};
+use crate::pcap::{PcapHeader, holds_record, next_header, next_record, record_time};
 use crate::time::Time;
 use rip_log::{Source, Span};
 use std::alloc::{AllocError, Global};
@@ -75,7 +75,7 @@ pub struct CaptureReader<R> {
 
 impl<R: Source> CaptureReader<R> {
     ghost use Rattle.rip_capture.specs.contracts.reader.CaptureReader.{the_row};
-    ghost use Rattle.rip_capture.specs.NextCall.{IsFar, NextCall, Runs, Stands, is_unreadable, frame_of, held_by, place_of, position_of, refusal_of, source_of};
+    ghost use Rattle.rip_capture.specs.NextCall.{HoldsPacket, IsFar, NextCall, Runs, Stands, is_unreadable, frame_of, held_by, place_of, position_of, refusal_of, section_by, source_of};
     ghost use Rattle.rip_capture.specs.Pcap.{Frame, IsMagic};
     ghost use Rattle.rip_capture.specs.Pcapng.{Section, begins_section, is_read_whole, least_len};
     ghost use Rattle.rip_capture.specs.Steps.{Begins, GoesOn, IsGood, IsGoodStep, StandsAt, Steps, TakesSo, frame_at, place_at};
@@ -350,6 +350,18 @@ impl<R: Source> CaptureReader<R> {
             Err(error) => Err(error),
             Ok(None) => Ok(None),
             Ok(Some(found)) => Ok(Some(self.packet(found))),
+        }
+    }
+
+    /// Whether the next record, or block of a packet, is held, so that `next` pulls nothing.
+    pub fn is_ready(&self) -> bool
+        ensures { result ≡ true →
+            HoldsPacket self.now.format (section_by self.now) (held_by self.now) }
+    {
+        match self.format {
+            None => false,
+            Some(Format::Pcap(header)) => holds_record(header.order, self.parts.feed.held()),
+            Some(Format::Pcapng) => holds_packet(self.section.order, self.parts.feed.held()),
         }
     }
 

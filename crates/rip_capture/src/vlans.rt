@@ -1,6 +1,7 @@
 //! The VLANs of a frame (IEEE 802.1Q).
 
-ghost use Rattle.std.specs.Prelude.{◌≡◌, ◌+◌, ◌*◌, ◌≤◌, ◌++◌, Decides, ℕ, List, length, take};
+ghost use Rattle.std.specs.Prelude.{◌≡◌, ◌+◌, ◌*◌, ◌%◌, ◌≤◌, ◌++◌, Decides, ℕ, List, length, take};
+ghost use Rattle.rip_wire.specs.Fields.{number_at};
 ghost use Rattle.rip_capture.specs.Vlans.{HasVlans, HasVlansAt, type_place};
 
 use crate::frame::{TAG, is_tag};
@@ -25,6 +26,14 @@ fn type_place(link_type: LinkType, frame: &[u8]) -> Option<(usize, usize)>
     }
 }
 
+/// The number of the VLAN in a tag, behind its priority.
+fn vlan_at(frame: &[u8], at: usize) -> u16
+    requires { at + 2 ≤ length frame.now }
+    ensures { result ≡ number_at 2 at frame.now % 4096 }
+{
+    u16_at(frame, at) % 4096
+}
+
 /// Whether the VLANs of the tags that begin where a type stands are these.
 fn are_vlans_at(frame: &[u8], place: usize, header: usize, vlans: &[u16]) -> bool
     requires place { place + 2 ≤ header }
@@ -38,7 +47,7 @@ fn are_vlans_at(frame: &[u8], place: usize, header: usize, vlans: &[u16]) -> boo
         if frame.len() - from < TAG {
             return seen == vlans.len();
         }
-        let vlan = u16_at(frame, from) % 4096;
+        let vlan = vlan_at(frame, from);
         if vlan != 0 {
             if seen == vlans.len() || vlans[seen] != vlan {
                 return false;
@@ -79,9 +88,9 @@ fn write_vlans_at(frame: &[u8], place: usize, header: usize, vlans: &mut [u16]) 
         if frame.len() - from < TAG {
             return count;
         }
-        let vlan = u16_at(frame, from) % 4096;
-        if vlan != 0 {
-            vlans[count] = vlan;
+        let number = vlan_at(frame, from);
+        if number != 0 {
+            vlans[count] = number;
             count += 1;
         }
         at = from + 2;

@@ -20,18 +20,19 @@ use Rattle.rip_report.specs.CaptureLogs.SoFar.{more}
 use Rattle.rip_report.specs.CaptureLogs.BeginsWith.{none, some}
 use Rattle.rip_report.specs.CaptureLogs.FileFront.{text as whole_front, packets as some_packets}
 use Rattle.rip_report.specs.CaptureLogs.FileText.{whole, refused, unread, memory}
-use Rattle.rip_report.specs.CaptureLogs.IsRefusedAt.{fault, packet, comment}
+use Rattle.rip_report.specs.CaptureLogs.IsRefusedAt.{fault, packet, comment, time as timeless}
 use Rattle.rip_report.specs.CapturePackets.{ClosesFile, EndsSo}
 use Rattle.rip_report.specs.Outs.{Adds, Progress}
 use Rattle.rip_report.specs.Sent.{SinkState, sink_state}
+use Rattle.rip_report.specs.LineTimes.{span_of}
 use Rattle.rip_report.specs.CaptureText.{AreCarriers, comment_line, counted_status, line_count, packet_lines}
 use Rattle.rip_report.specs.Selections.{Carrier, Choice, Part}
 use Rattle.rip_report.specs.Statuses.{fault_line_of}
 use Rattle.rip_report.specs.Written.{line}
-use Rattle.rip_report.specs.declared.captures.authentication.Authentication.{Authentication}
+use Rattle.rip_report.specs.declared.captures.manner.Manner.{Manner}
 use Rattle.rip_report.specs.declared.captures.ending.Ending.{Ending}
 use Rattle.rip_report.specs.declared.captures.ending.Ending.TheVariants.{Whole, Refused, Unread, Unwritten}
-use Rattle.rip_report.specs.declared.captures.ending.RefusalCode.TheVariants.{Capture, TooManyLines}
+use Rattle.rip_report.specs.declared.captures.ending.RefusalCode.TheVariants.{Capture, Time, TooManyLines}
 use Rattle.rip_report.specs.declared.captures.log.CaptureLog.{CaptureLog}
 use Rattle.rip_report.specs.declared.status.RunError.{RunError}
 use Rattle.rip_report.specs.declared.status.RunError.TheVariants.{Memory, Read, Write}
@@ -58,9 +59,9 @@ no-frames [] e = refl
 no-frames (c ∷ cs) e = cc e
 
 -- what was read of a file is a beginning of it
-begins-read : (choice : Choice) (cs : List Carrier) (bytes front rest : List ℕ) → AreCarriers choice cs → IsRead front (map (λ c. c.frame) cs) → bytes ≡ front ++ rest → BeginsWith choice bytes cs
-begins-read choice cs bytes front rest carry (nothing_read empty none_of) split = none (no-frames cs none_of)
-begins-read choice cs bytes front rest carry (capture_read is) split = some front rest split (record { capture = is; are = carry })
+begins-read : (how : Manner) (choice : Choice) (cs : List Carrier) (bytes front rest : List ℕ) → AreCarriers how choice cs → IsRead front (map (λ c. c.frame) cs) → bytes ≡ front ++ rest → BeginsWith how choice bytes cs
+begins-read how choice cs bytes front rest carry (nothing_read empty none_of) split = none (no-frames cs none_of)
+begins-read how choice cs bytes front rest carry (capture_read is) split = some front rest split (record { capture = is; are = carry })
 
 module _ {R : Type 0} (given : R → List ℕ) (at_end : R → Bool) (before bytes : List ℕ) (reader : CaptureReader R)
     (text : Begins (before ++ bytes) (given (source_of reader)) (at_end (source_of reader))) where
@@ -77,8 +78,8 @@ module _ {R : Type 0} (given : R → List ℕ) (at_end : R → Bool) (before byt
       ∙ ap (λ l. h.file ++ l) h.all ∙ append-nil h.file
 
   -- what was read is a beginning of the file
-  begins-by : (choice : Choice) (cs : List Carrier) (front rest : List ℕ) → AreCarriers choice cs → IsRead front (map (λ c. c.frame) cs) → given (source_of reader) ≡ before ++ front ++ rest → BeginsWith choice bytes cs
-  begins-by choice cs front rest carry read gave = begins-read choice cs bytes front (rest ++ text.left) carry read (split-by front rest gave ∙ append_assoc front rest text.left)
+  begins-by : (how : Manner) (choice : Choice) (cs : List Carrier) (front rest : List ℕ) → AreCarriers how choice cs → IsRead front (map (λ c. c.frame) cs) → given (source_of reader) ≡ before ++ front ++ rest → BeginsWith how choice bytes cs
+  begins-by how choice cs front rest carry read gave = begins-read how choice cs bytes front (rest ++ text.left) carry read (split-by front rest gave ∙ append_assoc front rest text.left)
 
   -- a file that is refused by its fault
   fault-by : Early → (frames : List Frame) (front rest : List ℕ) (code : CaptureCode) (at : ℕ) → given (source_of reader) ≡ before ++ front ++ rest → CaptureFault (front ++ rest) frames code at
@@ -101,27 +102,36 @@ module _ {R : Type 0} (given : R → List ℕ) (at_end : R → Bool) (before byt
     by_code NoRead found ended = later NoRead (λ e. cc e) found
 
   -- a file that is refused since the log has no room
-  many-by : (how : Authentication) (choice : Choice) (lines : ℕ) (cs : List Carrier) (at : ℕ) (out : Progress) → AreCarriers choice cs →
+  many-by : (how : Manner) (choice : Choice) (lines : ℕ) (cs : List Carrier) (at : ℕ) (out : Progress) → AreCarriers how choice cs →
       EndsSo given at_end how choice before lines cs reader out (Refused TooManyLines at)
-      → IsRefusedAt choice lines bytes cs TooManyLines at
-  many-by how choice lines cs at out carry (count, inl (next, is, takes, has)) =
-      packet takes.front takes.bytes (held_by reader ++ text.left) next (record { capture = takes.right; are = carry })
-      (record { capture = subst (λ (fs : List Frame). IsCapture (takes.front ++ takes.bytes) fs) (sym (frames-snoc cs next)) takes.longer; are = is })
-      takes.next
+      → IsRefusedAt how choice lines bytes cs TooManyLines at
+  many-by how choice lines cs at out carry (count, inl (next, is, logged, takes, has, timed)) =
+      packet takes.front takes.bytes (held_by reader ++ text.left) next
+      (record { before = record { capture = takes.right; are = carry }; longer = subst (λ (fs : List Frame). IsCapture (takes.front ++ takes.bytes) fs) (sym (frames-snoc cs next)) takes.longer; behind = takes.next; carries = is; logged = logged })
       (split-at (takes.front ++ takes.bytes) (map (λ c. c.frame) cs ++ next.frame ∷ []) takes.stands ∙ append_assoc (takes.front ++ takes.bytes) (held_by reader) text.left)
-      has count takes.place_is refl
+      has timed count takes.place_is refl
   many-by how choice lines cs at out carry (count, inr (here, place)) =
       let is = whole-is (map (λ c. c.frame) cs) here in
       comment (record { capture = subst (λ l. IsCapture l (map (λ c. c.frame) cs)) (sym is) here.right; are = carry })
       count (place ∙ here.stands.position ∙ ap length (sym is)) refl
 
+  -- a file that is refused since a packet has no time
+  timeless-by : (how : Manner) (choice : Choice) (lines : ℕ) (cs : List Carrier) (at : ℕ) (out : Progress) → AreCarriers how choice cs → lines + line_count cs ≤ 1000000 →
+      EndsSo given at_end how choice before lines cs reader out (Refused Time at)
+      → IsRefusedAt how choice lines bytes cs Time at
+  timeless-by how choice lines cs at out carry few (next, is, logged, takes, lacks) =
+      timeless takes.front takes.bytes (held_by reader ++ text.left) next
+      (record { before = record { capture = takes.right; are = carry }; longer = subst (λ (fs : List Frame). IsCapture (takes.front ++ takes.bytes) fs) (sym (frames-snoc cs next)) takes.longer; behind = takes.next; carries = is; logged = logged })
+      (split-at (takes.front ++ takes.bytes) (map (λ c. c.frame) cs ++ next.frame ∷ []) takes.stands ∙ append_assoc (takes.front ++ takes.bytes) (held_by reader) text.left)
+      lacks few takes.place_is refl
+
 -- a run that wrote the text of a file, and then ends, has added it
 module _ {K : Type 0} (taken : K → Taken) (broken : K → Bool) (old new : K) (before after : CaptureLog) (part : Part) (bytes : List ℕ) where
   pub adds-text : (text : List ℕ) (lines : ℕ) (answer result : Result Status RunError) → EndsWith (sink_state taken broken old) (sink_state taken broken new) text answer result
-      → FileText before.authentication (before.files + 1) before.lines part bytes text lines answer → Follows before after lines result → AddsFile taken broken old new before after part bytes result
+      → FileText before.manner (before.files + 1) before.lines part bytes text lines answer → Follows before after lines result → AddsFile taken broken old new before after part bytes result
   adds-text text lines answer result ends is follows = record {
     kept = λ e is_error. subst (Follows before after lines) is_error follows;
-    text = λ h. let out = ends.out h in (text, lines, subst (λ r. FileText before.authentication (before.files + 1) before.lines part bytes text lines r) (sym out.0) is, out.1, follows);
+    text = λ h. let out = ends.out h in (text, lines, subst (λ r. FileText before.manner (before.files + 1) before.lines part bytes text lines r) (sym out.0) is, out.1, follows);
     write = λ e. let h = ends.write e in (h.0, (text, whole_front lines answer is, h.1));
     sink = ends.sink;
   }
@@ -137,34 +147,38 @@ module _ {K : Type 0} (taken : K → Taken) (broken : K → Bool) (old new : K) 
 module _ {R K : Type 0} (given : R → List ℕ) (at_end : R → Bool) (start bytes : List ℕ) (reader : CaptureReader R)
     (text : Begins (start ++ bytes) (given (source_of reader)) (at_end (source_of reader)))
     (taken : K → Taken) (broken : K → Bool) (old new : K) (before after : CaptureLog) (part : Part) (out : Progress) (early : Early) (captures : ReadCaptures)
-    (cs : List Carrier) (carry : AreCarriers part.choice cs) (few : before.lines + line_count cs ≤ 1000000) where
-  pub adds-file : (ending : Ending) (result : Result Status RunError) → EndsSo given at_end before.authentication part.choice start before.lines cs reader out ending
-      → ClosesFile (sink_state taken broken old) (sink_state taken broken new) before after part.link (packet_lines before.authentication part.link cs) ending result → AddsFile taken broken old new before after part bytes result
-  adds-file (Whole tally) result (here, counts, count, room) (ends, follows) =
+    (cs : List Carrier) (carry : AreCarriers before.manner part.choice cs) (few : before.lines + line_count cs ≤ 1000000) where
+  pub adds-file : (ending : Ending) (result : Result Status RunError) → EndsSo given at_end before.manner part.choice start before.lines cs reader out ending
+      → ClosesFile (sink_state taken broken old) (sink_state taken broken new) before after part.link (packet_lines before.manner part.link cs) ending result → AddsFile taken broken old new before after part bytes result
+  adds-file (Whole tally) result (here, counts, count, room, span) (ends, answers, follows) =
       let is = whole-is given at_end start bytes reader text (map (λ c. c.frame) cs) here in
-      adds-text taken broken old new before after part bytes _ (tally.lines + 1) _ result ends
+      adds-text taken broken old new before after part bytes _ (tally.lines + 1) _ result (ends (span_of cs) span)
       (whole cs (record { capture = subst (λ l. IsCapture l (map (λ c. c.frame) cs)) (sym is) here.right; are = carry }) (omega (arith, count)) (omega (arith, room))
-      (ap (λ n. packet_lines before.authentication part.link cs ++ comment_line (before.files + 1) part.link n) counts) (ap (λ n. Ok (counted_status n)) counts)) follows
+      (ap (λ n. packet_lines before.manner part.link cs ++ comment_line (before.files + 1) part.link n (span_of cs)) counts) (ap (λ n. Ok (counted_status n)) counts)) follows
   adds-file (Refused (Capture code) at) result (stops, calm) (ends, same) =
       let found = fault-by given at_end start bytes reader text early (map (λ c. c.frame) cs) stops.front stops.rest code at stops.gave (stops.fault calm) stops.ended in
       adds-text taken broken old new before after part bytes _ 0 _ result ends
       (refused cs (Capture code) at (fault code found carry few refl) refl refl) (not-followed taken broken old new before after part bytes _ 0 _ result (inl refl) ends same)
   adds-file (Refused TooManyLines at) result ends_so (ends, same) =
       adds-text taken broken old new before after part bytes _ 0 _ result ends
-      (refused cs TooManyLines at (many-by given at_end start bytes reader text before.authentication part.choice before.lines cs at out carry ends_so) refl refl)
+      (refused cs TooManyLines at (many-by given at_end start bytes reader text before.manner part.choice before.lines cs at out carry ends_so) refl refl)
+      (not-followed taken broken old new before after part bytes _ 0 _ result (inl refl) ends same)
+  adds-file (Refused Time at) result ends_so (ends, same) =
+      adds-text taken broken old new before after part bytes _ 0 _ result ends
+      (refused cs Time at (timeless-by given at_end start bytes reader text before.manner part.choice before.lines cs at out carry few ends_so) refl refl)
       (not-followed taken broken old new before after part bytes _ 0 _ result (inl refl) ends same)
   adds-file Unread result (error, stops, failed) (ends, same) =
       adds-text taken broken old new before after part bytes _ 0 _ result ends
-      (unread cs (begins-by given at_end start bytes reader text part.choice cs stops.front stops.rest carry stops.read stops.gave) few refl refl)
+      (unread cs (begins-by given at_end start bytes reader text before.manner part.choice cs stops.front stops.rest carry stops.read stops.gave) few refl refl)
       (not-followed taken broken old new before after part bytes _ 0 _ result (inr refl) ends same)
   adds-file Unwritten result (failed, (so_far, stands)) (is, sink, began, same) = record {
     text = λ h. absurd (h is);
     write = λ e. (
       sink,
       (
-        packet_lines before.authentication part.link cs,
+        packet_lines before.manner part.link cs,
         some_packets cs
-            (begins-by given at_end start bytes reader text part.choice cs so_far (held_by reader) carry
+            (begins-by given at_end start bytes reader text before.manner part.choice cs so_far (held_by reader) carry
             (captures reader.format (section_by reader) so_far (map (λ c. c.frame) cs) stands.read) stands.gave) few refl,
         began,
       ),
@@ -176,23 +190,25 @@ module _ {R K : Type 0} (given : R → List ℕ) (at_end : R → Bool) (start by
 -- a run that ends with Read had a source that failed
 pub unread-only : {K : Type 0} (taken : K → Taken) (broken : K → Bool) (old new : K) (before after : CaptureLog) (link text : List ℕ) (ending : Ending) (result : Result Status RunError)
     → ClosesFile (sink_state taken broken old) (sink_state taken broken new) before after link text ending result → result ≡ Err Read → ending ≡ Unread
-unread-only taken broken old new before after link text (Whole tally) result (ends, follows) e = absurd (cc ((ends.out (λ f. cc (e, f))).0, e))
+unread-only taken broken old new before after link text (Whole tally) result (ends, answers, follows) e = absurd (cc (answers (λ f. cc (e, f)), e))
 unread-only taken broken old new before after link text (Refused (Capture code) at) result (ends, same) e = absurd (cc ((ends.out (λ f. cc (e, f))).0, e))
 unread-only taken broken old new before after link text (Refused TooManyLines at) result (ends, same) e = absurd (cc ((ends.out (λ f. cc (e, f))).0, e))
+unread-only taken broken old new before after link text (Refused Time at) result (ends, same) e = absurd (cc ((ends.out (λ f. cc (e, f))).0, e))
 unread-only taken broken old new before after link text Unread result h e = refl
 unread-only taken broken old new before after link text Unwritten result (is, sink, began, same) e = absurd (cc (is, e))
 
 -- no run that began a file ends with Memory
 pub never-memory : {K : Type 0} (taken : K → Taken) (broken : K → Bool) (old new : K) (before after : CaptureLog) (link text : List ℕ) (ending : Ending) (result : Result Status RunError)
     → ClosesFile (sink_state taken broken old) (sink_state taken broken new) before after link text ending result → result ≡ Err Memory → ⊥
-never-memory taken broken old new before after link text (Whole tally) result (ends, follows) e = cc ((ends.out (λ f. cc (e, f))).0, e)
+never-memory taken broken old new before after link text (Whole tally) result (ends, answers, follows) e = cc (answers (λ f. cc (e, f)), e)
 never-memory taken broken old new before after link text (Refused (Capture code) at) result (ends, same) e = cc ((ends.out (λ f. cc (e, f))).0, e)
 never-memory taken broken old new before after link text (Refused TooManyLines at) result (ends, same) e = cc ((ends.out (λ f. cc (e, f))).0, e)
+never-memory taken broken old new before after link text (Refused Time at) result (ends, same) e = cc ((ends.out (λ f. cc (e, f))).0, e)
 never-memory taken broken old new before after link text Unread result (ends, same) e = cc ((ends.out (λ f. cc (e, f))).0, e)
 never-memory taken broken old new before after link text Unwritten result (is, sink, began, same) e = cc (is, e)
 
 module _ {R : Type 0} (given : R → List ℕ) (at_end : R → Bool) (start bytes : List ℕ) (reader : CaptureReader R)
-    (text : Begins (start ++ bytes) (given (source_of reader)) (at_end (source_of reader))) (how : Authentication) (choice : Choice) (lines : ℕ) (out : Progress) (cs : List Carrier) where
+    (text : Begins (start ++ bytes) (given (source_of reader)) (at_end (source_of reader))) (how : Manner) (choice : Choice) (lines : ℕ) (out : Progress) (cs : List Carrier) where
   -- or the file is longer than offsets go
   pub far-bytes : EndsSo given at_end how choice start lines cs reader out Unread → IsFar reader → 2 ^ 64 ≤ length bytes + 2 ^ 32
   far-bytes (error, stops, failed) far =
@@ -204,14 +220,14 @@ module _ {R : Type 0} (given : R → List ℕ) (at_end : R → Bool) (start byte
 -- what went out where the source failed has each packet that it gave whole
 pub adds-unread : {R K : Type 0} (given : R → List ℕ) (at_end : R → Bool) (start bytes : List ℕ) (reader : CaptureReader R) (taken : K → Taken) (broken : K → Bool) (old new : K)
     (before after : CaptureLog) (part : Part) (lines : ℕ) (out : Progress) (cs : List Carrier)
-    → AreCarriers part.choice cs → given (source_of reader) ≡ start ++ bytes → EndsSo given at_end before.authentication part.choice start lines cs reader out Unread → (result : Result Status RunError)
-    → ClosesFile (sink_state taken broken old) (sink_state taken broken new) before after part.link (packet_lines before.authentication part.link cs) Unread result
-    → result ≡ Err Read → AddsUnread taken old new before.authentication part bytes
+    → AreCarriers before.manner part.choice cs → given (source_of reader) ≡ start ++ bytes → EndsSo given at_end before.manner part.choice start lines cs reader out Unread → (result : Result Status RunError)
+    → ClosesFile (sink_state taken broken old) (sink_state taken broken new) before after part.link (packet_lines before.manner part.link cs) Unread result
+    → result ≡ Err Read → AddsUnread taken old new before.manner part bytes
 adds-unread given at_end start bytes reader taken broken old new before after part lines out cs carry gave (error, stops, failed) result (ends, same) e =
     let is : bytes ≡ stops.front ++ stops.rest = append_cancel_left start bytes (stops.front ++ stops.rest) (sym gave ∙ stops.gave ∙ append_assoc start stops.front stops.rest) in
     record {
       carriers = cs;
-      begins = begins-read part.choice cs bytes stops.front stops.rest carry stops.read is;
+      begins = begins-read before.manner part.choice cs bytes stops.front stops.rest carry stops.read is;
       all = elim (stops.all failed) [
         | inl no_more ↦ inl (subst (λ (l : List ℕ). HasNoMore l (map (λ (c : Carrier). c.frame) cs)) (sym is) no_more)
         | inr far ↦ inr (omega (arith, far, stops.position, ap length is, length-append stops.front stops.rest))
@@ -236,28 +252,28 @@ closes-behind a new begun out before after link lines ending result start empty 
 -- ---- a log that goes on
 
 module _ (before after : CaptureLog) (part : Part) (bytes piece : List ℕ) (lines : ℕ) (files : List File) (text : List ℕ) (is : IsLogOf before files text) where
-  stops : (answer : Result Status RunError) → FileText before.authentication (before.files + 1) before.lines part bytes piece lines answer → (answer ≡ Ok RefusedFile) ⊎ (is_err answer ≡ true)
-      → LogOf before.authentication (files ++ record { part = part; bytes = bytes } ∷ []) (text ++ piece) answer
+  stops : (answer : Result Status RunError) → FileText before.manner (before.files + 1) before.lines part bytes piece lines answer → (answer ≡ Ok RefusedFile) ⊎ (is_err answer ≡ true)
+      → LogOf before.manner (files ++ record { part = part; bytes = bytes } ∷ []) (text ++ piece) answer
   stops answer file stop = stopped files [] (record { part = part; bytes = bytes }) text piece before.lines lines before.status is.so_far
-      (subst (λ n. FileText before.authentication (n + 1) before.lines part bytes piece lines answer) is.count file) stop refl refl
+      (subst (λ n. FileText before.manner (n + 1) before.lines part bytes piece lines answer) is.count file) stop refl refl
 
-  one-more : (status : Status) → status ≢ RefusedFile → FileText before.authentication (before.files + 1) before.lines part bytes piece lines (Ok status)
-      → (after.authentication ≡ before.authentication) × (after.files ≡ before.files + 1) × (after.lines ≡ lines) × (after.status ≡ worse before.status status)
+  one-more : (status : Status) → status ≢ RefusedFile → FileText before.manner (before.files + 1) before.lines part bytes piece lines (Ok status)
+      → (after.manner ≡ before.manner) × (after.files ≡ before.files + 1) × (after.lines ≡ lines) × (after.status ≡ worse before.status status)
       → IsLogOf after (files ++ record { part = part; bytes = bytes } ∷ []) (text ++ piece)
   one-more status good file (same, count, ends, answers) = record {
     count = count ∙ ap (λ n. n + 1) is.count ∙ sym (length-snoc files (record { part = part; bytes = bytes }));
     so_far = subst (λ h. SoFar h (files ++ record { part = part; bytes = bytes } ∷ []) (text ++ piece) after.lines after.status) (sym same)
-        (subst (λ n. SoFar before.authentication (files ++ record { part = part; bytes = bytes } ∷ []) (text ++ piece) n after.status) (sym ends)
-        (subst (λ s. SoFar before.authentication (files ++ record { part = part; bytes = bytes } ∷ []) (text ++ piece) lines s) (sym answers)
+        (subst (λ n. SoFar before.manner (files ++ record { part = part; bytes = bytes } ∷ []) (text ++ piece) n after.status) (sym ends)
+        (subst (λ s. SoFar before.manner (files ++ record { part = part; bytes = bytes } ∷ []) (text ++ piece) lines s) (sym answers)
         (more files (record { part = part; bytes = bytes }) text piece before.lines lines before.status status is.so_far good
-        (subst (λ n. FileText before.authentication (n + 1) before.lines part bytes piece lines (Ok status)) is.count file))));
+        (subst (λ n. FileText before.manner (n + 1) before.lines part bytes piece lines (Ok status)) is.count file))));
   }
 
-  still : (answer : Result Status RunError) → after ≡ before → LogOf before.authentication (files ++ record { part = part; bytes = bytes } ∷ []) (text ++ piece) answer
-      → LogOf after.authentication (files ++ record { part = part; bytes = bytes } ∷ []) (text ++ piece) answer
-  still answer same log = subst (λ (l : CaptureLog). LogOf l.authentication (files ++ record { part = part; bytes = bytes } ∷ []) (text ++ piece) answer) (sym same) log
+  still : (answer : Result Status RunError) → after ≡ before → LogOf before.manner (files ++ record { part = part; bytes = bytes } ∷ []) (text ++ piece) answer
+      → LogOf after.manner (files ++ record { part = part; bytes = bytes } ∷ []) (text ++ piece) answer
+  still answer same log = subst (λ (l : CaptureLog). LogOf l.manner (files ++ record { part = part; bytes = bytes } ∷ []) (text ++ piece) answer) (sym same) log
 
-  pub goes-on : (answer : Result Status RunError) → FileText before.authentication (before.files + 1) before.lines part bytes piece lines answer → Follows before after lines answer
+  pub goes-on : (answer : Result Status RunError) → FileText before.manner (before.files + 1) before.lines part bytes piece lines answer → Follows before after lines answer
       → GoesOn after (files ++ record { part = part; bytes = bytes } ∷ []) (text ++ piece) answer
   goes-on (Ok RefusedFile) file follows = still (Ok RefusedFile) follows (stops (Ok RefusedFile) file (inl refl))
   goes-on (Ok Done) file follows = one-more Done (λ e. cc e) file follows
@@ -275,7 +291,7 @@ log-goes-on taken broken old new before after part bytes answer adds files text 
     (out.0, out.3, goes-on before after part bytes out.0 out.1 files text is answer out.2 out.4)
 
 -- a failure before a file is begun, of which nothing was read
-pub failed-text : (error : RunError) → error ≢ Write → (how : Authentication) (n lines : ℕ) (part : Part) (bytes : List ℕ) → lines ≤ 1000000 →
+pub failed-text : (error : RunError) → error ≢ Write → (how : Manner) (n lines : ℕ) (part : Part) (bytes : List ℕ) → lines ≤ 1000000 →
     FileText how n lines part bytes (line (fault_line_of error)) lines (Err error)
 failed-text Read h how n lines part bytes few = unread [] (none refl) (omega (arith, few)) refl refl
 failed-text Write h how n lines part bytes few = absurd (h refl)
@@ -283,9 +299,9 @@ failed-text Memory h how n lines part bytes few = memory refl refl
 
 pub failure-goes-on : {K : Type 0} (taken : K → Taken) (broken : K → Bool) (old new : K) (error : RunError) (result : Result Status RunError) → error ≢ Write
     → EndsWith (sink_state taken broken old) (sink_state taken broken new) (line (fault_line_of error)) (Err error) result → (log : CaptureLog) (files : List File) (text : List ℕ) (file : File) → IsLogOf log files text → result ≢ Err Write
-    → (piece : List ℕ) × Took (taken old) (taken new) piece × LogOf log.authentication (files ++ file ∷ []) (text ++ piece) result
+    → (piece : List ℕ) × Took (taken old) (taken new) piece × LogOf log.manner (files ++ file ∷ []) (text ++ piece) result
 failure-goes-on taken broken old new error result good ends log files text file is wrote =
     let out = ends.out wrote in
-    let log_of = stopped files [] file text (line (fault_line_of error)) log.lines log.lines log.status is.so_far (failed-text error good log.authentication (length files + 1) log.lines file.part file.bytes log.few)
+    let log_of = stopped files [] file text (line (fault_line_of error)) log.lines log.lines log.status is.so_far (failed-text error good log.manner (length files + 1) log.lines file.part file.bytes log.few)
     (inr refl) refl refl in
-    (line (fault_line_of error), out.1, subst (λ r. LogOf log.authentication (files ++ file ∷ []) (text ++ line (fault_line_of error)) r) (sym out.0) log_of)
+    (line (fault_line_of error), out.1, subst (λ r. LogOf log.manner (files ++ file ∷ []) (text ++ line (fault_line_of error)) r) (sym out.0) log_of)

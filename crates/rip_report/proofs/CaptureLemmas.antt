@@ -23,7 +23,9 @@ use Rattle.rip_report.specs.declared.captures.authentication.Authentication.TheV
 use Rattle.rip_report.specs.declared.captures.ending.Ending.TheVariants.{Refused as RefusedFile, Unread, Whole}
 use Rattle.rip_report.specs.declared.captures.ending.RefusalCode.TheVariants.{TooManyLines}
 use Rattle.rip_report.specs.declared.captures.tally.Tally.{Tally}
-use Rattle.rip_report.specs.CaptureText.{AreCarriers, HasRoom, count_of, counted, counts_of, has_line, is_cut, is_datagram, is_elsewhere, is_fragment, is_long, is_malformed, is_mixed, is_other, line_count, logged_line, mixed_count, omitted_of, one, packet_lines, such}
+use Rattle.rip_report.specs.LineTimes.{AreShown, IsTimed, span_of, time_part}
+use Rattle.rip_report.specs.declared.captures.manner.Manner.{Manner}
+use Rattle.rip_report.specs.CaptureText.{AreCarriers, HasRoom, count_of, counted, counts_of, has_line, is_cut, is_datagram, is_elsewhere, is_fragment, is_long, is_malformed, is_mixed, is_other, is_timed, line_count, logged_line, mixed_count, omitted_of, one, packet_lines, such}
 use Rattle.rip_report.specs.LoggedDatagrams.{nothing_omitted}
 use Rattle.rip_capture.specs.Origins.{origin_in}
 use Rattle.rip_capture.specs.declared.first.FirstOrigin.{FirstOrigin}
@@ -63,7 +65,7 @@ module _ {X : Type 0} where
   pub length-snoc : (xs : List X) (x : X) → length (xs ++ x ∷ []) ≡ length xs + 1
   length-snoc xs x = length-append xs (x ∷ [])
 
-logged-snoc : (choice : Choice) (first : Option Frame) (cs : List Carrier) (c : Carrier) → AreLogged choice first cs → IsLogged choice (first_behind first cs) c → AreLogged choice first (cs ++ c ∷ [])
+logged-snoc : (choice : Choice) (first : Option Frame) (cs : List Carrier) (c : Carrier) → AreLogged choice first cs → IsLogged choice (first_behind first cs) c.frame c.carried c.logged → AreLogged choice first (cs ++ c ∷ [])
 logged-snoc choice first [] c are is = (is, tt)
 logged-snoc choice first (d ∷ cs) c are is = (are.0, logged-snoc choice (first_with first d.frame d.carried) cs c are.1 is)
 
@@ -76,21 +78,27 @@ pub keeps-none : (choice : Choice) (kept : FirstOrigin) → origin_in kept ≡ N
 keeps-none OneOrigin kept e = e
 keeps-none (Of name vlans) kept e = tt
 
-pub carriers-snoc : (choice : Choice) (cs : List Carrier) (c : Carrier) → AreCarriers choice cs → IsCarrier c → IsLogged choice (first_behind None cs) c → AreCarriers choice (cs ++ c ∷ [])
-carriers-snoc choice cs c are is logged = record { carry = all-snoc IsCarrier cs c are.carry is; logged = logged-snoc choice None cs c are.logged logged }
+pub carriers-snoc : (how : Manner) (choice : Choice) (cs : List Carrier) (c : Carrier) → AreCarriers how choice cs → IsCarrier c → IsLogged choice (first_behind None cs) c.frame c.carried c.logged
+    → IsTimed (is_timed how c.logged) c.frame c.at → AreCarriers how choice (cs ++ c ∷ [])
+carriers-snoc how choice cs c are is logged timed = record {
+  carry = all-snoc IsCarrier cs c are.carry is;
+  logged = logged-snoc choice None cs c are.logged logged;
+  timed = all-snoc (λ (d : Carrier). IsTimed (is_timed how d.logged) d.frame d.at) cs c are.timed timed;
+}
 
 pub frames-snoc : (cs : List Carrier) (c : Carrier) → map (λ d. d.frame) (cs ++ c ∷ []) ≡ map (λ d. d.frame) cs ++ c.frame ∷ []
 frames-snoc cs c = map-append (λ d. d.frame) cs (c ∷ [])
 
-pub lines-snoc : (how : Authentication) (link : List ℕ) (cs : List Carrier) (c : Carrier) →
-    packet_lines how link (cs ++ c ∷ []) ≡ packet_lines how link cs ++ logged_line how link c.frame.bytes c.logged
+pub lines-snoc : (how : Manner) (link : List ℕ) (cs : List Carrier) (c : Carrier) →
+    packet_lines how link (cs ++ c ∷ []) ≡ packet_lines how link cs ++ (time_part c.at ++ logged_line how.authentication link c.frame.bytes c.logged)
 lines-snoc how link cs c =
-    flat_map-append (λ d. logged_line how link d.frame.bytes d.logged) cs (c ∷ []) ∙ ap (λ l. packet_lines how link cs ++ l) (append-nil (logged_line how link c.frame.bytes c.logged))
+    flat_map-append (λ d. time_part d.at ++ logged_line how.authentication link d.frame.bytes d.logged) cs (c ∷ [])
+    ∙ ap (λ l. packet_lines how link cs ++ l) (append-nil (time_part c.at ++ logged_line how.authentication link c.frame.bytes c.logged))
 
 pub line_count-snoc : (cs : List Carrier) (c : Carrier) → line_count (cs ++ c ∷ []) ≡ line_count cs + one (has_line c.logged)
 line_count-snoc cs c = count-snoc (λ d. has_line d.logged) cs c
 
-pub counts-snoc : (how : Authentication) (cs : List Carrier) (c : Carrier) → counts_of how (cs ++ c ∷ []) ≡ counted (counts_of how cs) c.logged (omitted_of how c.frame.bytes c.logged)
+pub counts-snoc : (how : Manner) (cs : List Carrier) (c : Carrier) → counts_of how (cs ++ c ∷ []) ≡ counted (counts_of how cs) c.logged (omitted_of how.authentication c.frame.bytes c.logged)
 counts-snoc how cs c = rw (
   length-snoc cs c,
   count-snoc (λ d. such is_datagram d.logged) cs c,
@@ -99,14 +107,14 @@ counts-snoc how cs c = rw (
   count-snoc (λ d. such is_malformed d.logged) cs c,
   count-snoc (λ d. such is_long d.logged) cs c,
   count-snoc (λ d. is_mixed d.logged) cs c,
-  count-snoc (λ d. (omitted_of how d.frame.bytes d.logged).password) cs c,
-  count-snoc (λ d. (omitted_of how d.frame.bytes d.logged).authentication) cs c,
+  count-snoc (λ d. (omitted_of how.authentication d.frame.bytes d.logged).password) cs c,
+  count-snoc (λ d. (omitted_of how.authentication d.frame.bytes d.logged).authentication) cs c,
   count-snoc (λ d. such is_elsewhere d.logged) cs c,
   count-snoc (λ d. such is_other d.logged) cs c,
 ) refl
 
 -- there is room for a packet more while there are fewer than the greatest number
-pub has-room : (how : Authentication) (n : PacketCounts) (cs : List Carrier) → n ≡ counts_of how cs → n.packets < 2 ^ 64 - 1 → HasRoom n
+pub has-room : (how : Manner) (n : PacketCounts) (cs : List Carrier) → n ≡ counts_of how cs → n.packets < 2 ^ 64 - 1 → HasRoom n
 has-room how n cs is few =
     let at : (p : Carrier → Bool) → count_by p cs ≤ length cs = λ p. count_by-le-length p cs in
     let packets : length cs < 2 ^ 64 - 1 = rw is at few in
@@ -125,13 +133,13 @@ has-room how n cs is few =
     })
 
 -- what a packet more does to all that was logged before
-pub adds-packet : {old mid new : Progress} (how : Authentication) (link : List ℕ) (cs : List Carrier) (p : Carrier) → Adds old mid (packet_lines how link cs)
-    → Adds mid new (logged_line how link p.frame.bytes p.logged) → Adds old new (packet_lines how link (cs ++ p ∷ []))
+pub adds-packet : {old mid new : Progress} (how : Manner) (link : List ℕ) (cs : List Carrier) (p : Carrier) → Adds old mid (packet_lines how link cs)
+    → Adds mid new (time_part p.at ++ logged_line how.authentication link p.frame.bytes p.logged) → Adds old new (packet_lines how link (cs ++ p ∷ []))
 adds-packet how link cs p f g = adds_same (sym (lines-snoc how link cs p)) (adds_then f g)
 
 -- ---- how a file ends
 
-module _ {R : Type 0} (given : R → List ℕ) (at_end : R → Bool) (how : Authentication) (choice : Choice) (before : List ℕ) (lines : ℕ) (cs : List Carrier) (new : CaptureReader R) (out : Progress) where
+module _ {R : Type 0} (given : R → List ℕ) (at_end : R → Bool) (how : Manner) (choice : Choice) (before : List ℕ) (lines : ℕ) (cs : List Carrier) (new : CaptureReader R) (out : Progress) where
   -- at an error
   pub ends-by : (code : CaptureCode) (at : ℕ) → StopsAt given at_end before (map (λ c. c.frame) cs) (record { code = code; at = at }) new →
       EndsSo given at_end how choice before lines cs new out (ended_by (record { code = code; at = at }))
@@ -145,13 +153,13 @@ module _ {R : Type 0} (given : R → List ℕ) (at_end : R → Bool) (how : Auth
   ends-by Read at h = (record { code = Read; at = at }, h, refl)
 
   -- at its end
-  pub ends-at : (tally : Tally) → EndsHere given at_end before (map (λ c. c.frame) cs) new → tally.counts ≡ counts_of how cs → tally.lines ≡ lines + line_count cs → tally.lines ≤ 1000000
+  pub ends-at : (tally : Tally) → EndsHere given at_end before (map (λ c. c.frame) cs) new → tally.counts ≡ counts_of how cs → tally.lines ≡ lines + line_count cs → tally.lines ≤ 1000000 → AreShown tally.span (span_of cs)
       → EndsSo given at_end how choice before lines cs new out (ended_at tally (position_of new))
-  ends-at tally here counts count few =
+  ends-at tally here counts count few span =
       elim (tally.lines == 1000000) as (λ b. (tally.lines == 1000000) ≡ b → EndsSo given at_end how choice before lines cs new out
       (if b then RefusedFile TooManyLines (position_of new) else Whole tally)) [
         | true ↦ λ e. (sym count ∙ eqb-true tally.lines 1000000 e, inr (here, refl))
-        | false ↦ λ e. (here, counts, count, omega (arith, few, eqb-false tally.lines 1000000 e))
+        | false ↦ λ e. (here, counts, count, omega (arith, few, eqb-false tally.lines 1000000 e), span)
       ] refl
 
 pub never-unread : (tally : Tally) (at : ℕ) → ended_at tally at ≡ Unread → ⊥
@@ -265,31 +273,34 @@ kinds-sum (c ∷ cs) = omega (
   counted-more (λ d. such is_other d.logged) c cs,
 )
 
-pub passwords-few : (how : Authentication) (cs : List Carrier) → (counts_of how cs).passwords ≤ count_of is_datagram cs
+pub passwords-few : (how : Manner) (cs : List Carrier) → (counts_of how cs).passwords ≤ count_of is_datagram cs
 passwords-few how [] = omega arith
 passwords-few how (c ∷ cs) = omega (
   arith,
   passwords-few how cs,
-  omitted-of-datagram how c.frame.bytes (λ o. o.password) refl c.logged,
-  counted-more (λ d. (omitted_of how d.frame.bytes d.logged).password) c cs,
+  omitted-of-datagram how.authentication c.frame.bytes (λ o. o.password) refl c.logged,
+  counted-more (λ d. (omitted_of how.authentication d.frame.bytes d.logged).password) c cs,
   counted-more (λ d. such is_datagram d.logged) c cs,
 )
 
-pub authentication-few : (how : Authentication) (cs : List Carrier) → (counts_of how cs).without_authentication ≤ count_of is_datagram cs
+pub authentication-few : (how : Manner) (cs : List Carrier) → (counts_of how cs).without_authentication ≤ count_of is_datagram cs
 authentication-few how [] = omega arith
 authentication-few how (c ∷ cs) = omega (
   arith,
   authentication-few how cs,
-  omitted-of-datagram how c.frame.bytes (λ o. o.authentication) refl c.logged,
-  counted-more (λ d. (omitted_of how d.frame.bytes d.logged).authentication) c cs,
+  omitted-of-datagram how.authentication c.frame.bytes (λ o. o.authentication) refl c.logged,
+  counted-more (λ d. (omitted_of how.authentication d.frame.bytes d.logged).authentication) c cs,
   counted-more (λ d. such is_datagram d.logged) c cs,
 )
 
-pub authentication-as-sent : (cs : List Carrier) → (counts_of AsSent cs).without_authentication ≡ 0
-authentication-as-sent [] = refl
-authentication-as-sent (c ∷ cs) = omega (
+none-asked : (how : Authentication) → how ≡ AsSent → (frame : List ℕ) (l : Logged) → one (omitted_of how frame l).authentication ≡ 0
+none-asked how e frame l = rw e (none-as-sent frame l)
+
+pub authentication-as-sent : (how : Manner) (cs : List Carrier) → how.authentication ≡ AsSent → (counts_of how cs).without_authentication ≡ 0
+authentication-as-sent how [] e = refl
+authentication-as-sent how (c ∷ cs) e = omega (
   arith,
-  authentication-as-sent cs,
-  none-as-sent c.frame.bytes c.logged,
-  counted-more (λ d. (omitted_of AsSent d.frame.bytes d.logged).authentication) c cs,
+  authentication-as-sent how cs e,
+  none-asked how.authentication e c.frame.bytes c.logged,
+  counted-more (λ d. (omitted_of how.authentication d.frame.bytes d.logged).authentication) c cs,
 )

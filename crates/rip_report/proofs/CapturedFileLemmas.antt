@@ -1,5 +1,5 @@
 -- A log of capture files without a bad line is one of whole files.
-use Rattle.std.proofs.Common.{◌≡◌, ◌⊎◌, ◌+◌, ◌^◌, ◌<◌, ◌≤◌, ◌==◌, ◌∙◌, ℕ, Bool, true, false, cond, List, [], ◌∷◌, ◌++◌, Some, None, Result, Ok, Err, is_err, length, map, drop, decimal, codes, ap, sym, refl, inl, inr, subst, arith, append_assoc, append-nil}
+use Rattle.std.proofs.Common.{◌≡◌, ◌⊎◌, ◌+◌, ◌^◌, ◌<◌, ◌≤◌, ◌==◌, ◌∙◌, ℕ, Bool, true, false, cond, List, [], ◌∷◌, ◌++◌, Option, Some, None, Result, Ok, Err, is_err, length, map, drop, decimal, codes, ap, sym, refl, inl, inr, subst, arith, append_assoc, append-nil}
 use Rattle.std.specs.List.{AllByRecursion}
 use Rattle.std.specs.Prelude.{◌↔◌, if◌then◌else◌, count_by, flat_map}
 use Rattle.std.proofs.lemmas.List.Sums.{sum_by-cons}
@@ -16,20 +16,22 @@ use Rattle.rip_capture.specs.declared.packet.Carried.{Carried}
 use Rattle.rip_capture.specs.declared.packet.Carried.TheVariants.{Datagram, Cut, Fragment, Malformed, Long, Unknown, Elsewhere, Others}
 use Rattle.rip_report.specs.CaptureLogs.{BeginsWith, File, FileText, HasDatagrams, HaveDatagrams, IsFile, IsRefusedAt, LogOf, SoFar, datagram_in, is_whole, is_whole_one, worse}
 use Rattle.rip_report.specs.CaptureLogs.BeginsWith.{none as nothing, some as something}
-use Rattle.rip_report.specs.CaptureLogs.IsRefusedAt.{fault, packet, comment}
+use Rattle.rip_report.specs.CaptureLogs.IsRefusedAt.{fault, packet, comment, time as timeless}
 use Rattle.rip_report.specs.CaptureLogs.FileText.{whole, refused, unread, memory}
 use Rattle.rip_report.specs.CaptureLogs.LogOf.{all, stopped}
 use Rattle.rip_report.specs.CaptureLogs.SoFar.{none, more}
-use Rattle.rip_report.specs.CaptureText.{AreCarriers, comment_front, comment_line, count_of, counted_status, counts_of, file_part, file_refusal_line, is_cut, is_fragment, is_long, is_malformed, is_mixed, lacking_part, one, other_part, packet_lines, refusal_code_text, such}
+use Rattle.rip_report.specs.CaptureText.{AreCarriers, comment_front, comment_line, count_of, counted_status, counts_of, file_part, file_refusal_line, is_cut, is_fragment, is_long, is_malformed, is_mixed, is_timed, lacking_part, one, other_part, packet_lines, refusal_code_text, such}
+use Rattle.rip_report.specs.LineTimes.{IsTimed, span_behind, span_of, span_part, span_with}
+use Rattle.rip_log.specs.declared.time.date_time.DateTime.{DateTime}
 use Rattle.rip_report.specs.Selections.{Carrier, Choice, Part}
 use Rattle.rip_report.specs.declared.captures.logged.Logged.{Logged}
 use Rattle.rip_report.specs.declared.captures.logged.Logged.TheVariants.{As, Mixed}
 use Rattle.rip_report.specs.LeftOut.{count_part}
 use Rattle.rip_report.specs.Written.{line}
-use Rattle.rip_report.specs.declared.captures.authentication.Authentication.{Authentication}
+use Rattle.rip_report.specs.declared.captures.manner.Manner.{Manner}
 use Rattle.rip_report.specs.declared.captures.counts.PacketCounts.{PacketCounts}
 use Rattle.rip_report.specs.declared.captures.ending.RefusalCode.{RefusalCode}
-use Rattle.rip_report.specs.declared.captures.ending.RefusalCode.TheVariants.{Capture, TooManyLines}
+use Rattle.rip_report.specs.declared.captures.ending.RefusalCode.TheVariants.{Capture, Time, TooManyLines}
 use Rattle.rip_capture.specs.declared.error.CaptureCode.{CaptureCode}
 use Rattle.rip_capture.specs.declared.error.CaptureCode.TheVariants as codes-of
 use Rattle.rip_capture.proofs.ByteLemmas.{all-left, all-right}
@@ -107,9 +109,15 @@ hash-first : (k : ℕ) (link : List ℕ) (n : PacketCounts) → comment_front k 
 unfolding comment_front
 hash-first k link n = refl
 
-comment-skipped : (n k : ℕ) (link : List ℕ) (c : PacketCounts) (rest : List ℕ) (records : List Numbered) → IsName link → Reads n (comment_line k link c ++ rest) records → Reads (n + 1) rest records
-comment-skipped n k link c rest records name reads =
+no-span : span_part None ≡ []
+unfolding span_part
+no-span = refl
+
+comment-skipped : (n k : ℕ) (link : List ℕ) (c : PacketCounts) (rest : List ℕ) (records : List Numbered) → IsName link → Reads n (comment_line k link c None ++ rest) records → Reads (n + 1) rest records
+comment-skipped n k link c rest records name reads_so =
     let end = lacking_part c ++ other_part c in
+    let bare : lacking_part c ++ (other_part c ++ span_part None) ≡ end = ap (λ l. lacking_part c ++ (other_part c ++ l)) no-span ∙ ap (λ l. lacking_part c ++ l) (append-nil (other_part c)) in
+    let reads = subst (λ l. Reads n (line (comment_front k link c ++ l) ++ rest) records) bare reads_so in
     let text = comment_front k link c ++ end in
     let safe = both (comment_front k link c) end (front-spaced k link c name) (both (lacking_part c) (other_part c) (lacking-spaced c) (other-spaced c)) in
     let fields : fields_of text ≡ (35 ∷ []) ∷ fields_of (drop 2 (comment_front k link c) ++ end) = ap (λ l. fields_of (l ++ end)) (hash-first k link c) in
@@ -128,6 +136,7 @@ code-spaced (Capture codes-of.Interface) = tested 32 (codes "6 Interface") refl
 code-spaced (Capture codes-of.OldPacket) = tested 32 (codes "7 OldPacket") refl
 code-spaced (Capture codes-of.Read) = tested 32 (codes "Read") refl
 code-spaced TooManyLines = tested 32 (codes "8 TooManyLines") refl
+code-spaced Time = tested 32 (codes "9 Time") refl
 
 six-parts : (a b c d e f : List ℕ) → a ++ b ++ c ++ d ++ e ++ f ≡ a ++ (b ++ (c ++ (d ++ (e ++ f))))
 six-parts a b c d e f = append_assoc (a ++ b ++ c ++ d) e f ∙ append_assoc (a ++ b ++ c) d (e ++ f) ∙ append_assoc (a ++ b) c (d ++ (e ++ f)) ∙ append_assoc a b (c ++ (d ++ (e ++ f)))
@@ -220,13 +229,13 @@ not-long Unknown h = refl
 not-long Elsewhere h = refl
 not-long Others h = refl
 
-pub whole-status : (how : Authentication) (cs : List Carrier) → AllByRecursion (λ c. is_whole c.logged ≡ true) cs → counted_status (counts_of how cs) ≡ Done
+pub whole-status : (how : Manner) (cs : List Carrier) → AllByRecursion (λ c. is_whole c.logged ≡ true) cs → counted_status (counts_of how cs) ≡ Done
 whole-status how cs h = rw (none-of is_cut not-cut cs h, none-of is_fragment not-fragment cs h, none-of is_malformed not-malformed cs h, none-of is_long not-long cs h, none-so is_mixed not-mixed cs h) refl
 
 -- ---- files
 
 -- the datagrams of files and of one more
-pub have-more : (how : Authentication) (files : List File) (file : File) (xs ys : List Captured) → HaveDatagrams how files xs → HasDatagrams how file ys →
+pub have-more : (how : Manner) (files : List File) (file : File) (xs ys : List Captured) → HaveDatagrams how files xs → HasDatagrams how file ys →
     HaveDatagrams how (files ++ file ∷ []) (xs ++ ys)
 have-more how [] file xs ys e h = (ys, [], h, refl, ap (λ l. l ++ ys) e ∙ sym (append-nil ys))
 have-more how (f ∷ files) file xs ys (first, rest, has, have, e) h = (first, rest ++ ys, has, have-more how files file rest ys have h, ap (λ l. l ++ ys) e ∙ append_assoc first rest ys)
@@ -244,49 +253,69 @@ abbrev IsByte : ℕ → Type 0
 IsByte b = b < 256
 
 module _ (packet_bytes : PacketBytes) (origins : SomeOrigin) where
-  senders : (choice : Choice) (cs : List Carrier) → AllByRecursion (λ c. Bytes c.frame.bytes) cs → AreCarriers choice cs → AllByRecursion (λ c. HasSender c.logged) cs
-  senders choice cs bytes are = senders-logged choice None cs bytes are.carry are.logged
+  -- no line has a time where none was asked for
+  untimed : (how : Manner) (cs : List Carrier) → how.times ≡ false → AllByRecursion (λ c. IsTimed (is_timed how c.logged) c.frame c.at) cs → AllByRecursion (λ c. c.at ≡ None) cs
+  untimed how [] plain h = tt
+  untimed how (c ∷ cs) plain h =
+      let off : is_timed how c.logged ≡ false = rw plain refl in
+      let none : h.0.micros ≡ None = h.0.none off in
+      (rw none at h.0.shown, untimed how cs plain h.1)
 
-  refused-bytes : (choice : Choice) (lines : ℕ) (b : List ℕ) (cs : List Carrier) (code : RefusalCode) (at : ℕ) → IsRefusedAt choice lines b cs code at → Bytes b → AllByRecursion (λ c. Bytes c.frame.bytes) cs
-  refused-bytes choice lines b cs code at (fault c found carry few is) h = of-frames cs (packet_bytes.fault b (map (λ c. c.frame) cs) c at found h)
-  refused-bytes choice lines b cs code at (packet front bytes rest next right longer behind split has count place is) h =
-      of-frames cs (packet_bytes.right front (map (λ c. c.frame) cs) right.capture (all-left IsByte front bytes (all-left IsByte (front ++ bytes) rest (subst Bytes split h))))
-  refused-bytes choice lines b cs code at (comment right count place is) h = of-frames cs (packet_bytes.right b (map (λ c. c.frame) cs) right.capture h)
+  without-times : (how : Manner) (choice : Choice) (cs : List Carrier) → how.times ≡ false → AreCarriers how choice cs → AllByRecursion (λ c. c.at ≡ None) cs
+  without-times how choice cs plain are = untimed how cs plain are.timed
 
-  refused-carry : (choice : Choice) (lines : ℕ) (b : List ℕ) (cs : List Carrier) (code : RefusalCode) (at : ℕ) → IsRefusedAt choice lines b cs code at → AreCarriers choice cs
-  refused-carry choice lines b cs code at (fault c found carry few is) = carry
-  refused-carry choice lines b cs code at (packet front bytes rest next right longer behind split has count place is) = right.are
-  refused-carry choice lines b cs code at (comment right count place is) = right.are
+  no-times : (span : Option (DateTime × DateTime)) (cs : List Carrier) → AllByRecursion (λ c. c.at ≡ None) cs → span_behind span cs ≡ span
+  no-times span [] h = refl
+  no-times span (c ∷ cs) h = ap (λ (o : Option DateTime). span_behind (span_with span o) cs) h.0 ∙ no-times span cs h.1
 
-  begun-bytes : (choice : Choice) (b : List ℕ) (cs : List Carrier) → BeginsWith choice b cs → Bytes b → AllByRecursion (λ c. Bytes c.frame.bytes) cs
-  begun-bytes choice b cs (nothing e) h = subst (AllByRecursion (λ (c : Carrier). Bytes c.frame.bytes)) (sym e) tt
-  begun-bytes choice b cs (something front rest split right) h = of-frames cs (packet_bytes.right front (map (λ c. c.frame) cs) right.capture (all-left IsByte front rest (subst Bytes split h)))
+  senders : (how : Manner) (choice : Choice) (cs : List Carrier) → AllByRecursion (λ c. Bytes c.frame.bytes) cs → AreCarriers how choice cs → AllByRecursion (λ c. HasSender c.logged) cs
+  senders how choice cs bytes are = senders-logged choice None cs bytes are.carry are.logged
 
-  begun-carry : (choice : Choice) (b : List ℕ) (cs : List Carrier) → BeginsWith choice b cs → AreCarriers choice cs
-  begun-carry choice b cs (nothing e) = subst (AreCarriers choice) (sym e) (record { carry = tt; logged = tt })
-  begun-carry choice b cs (something front rest split right) = right.are
+  refused-bytes : (how : Manner) (choice : Choice) (lines : ℕ) (b : List ℕ) (cs : List Carrier) (code : RefusalCode) (at : ℕ) → IsRefusedAt how choice lines b cs code at → Bytes b → AllByRecursion (λ c. Bytes c.frame.bytes) cs
+  refused-bytes how choice lines b cs code at (fault c found carry few is) h = of-frames cs (packet_bytes.fault b (map (λ c. c.frame) cs) c at found h)
+  refused-bytes how choice lines b cs code at (packet front bytes rest next is_next split has timed count place is) h =
+      of-frames cs (packet_bytes.right front (map (λ c. c.frame) cs) is_next.before.capture (all-left IsByte front bytes (all-left IsByte (front ++ bytes) rest (subst Bytes split h))))
+  refused-bytes how choice lines b cs code at (timeless front bytes rest next is_next split lacks few place is) h =
+      of-frames cs (packet_bytes.right front (map (λ c. c.frame) cs) is_next.before.capture (all-left IsByte front bytes (all-left IsByte (front ++ bytes) rest (subst Bytes split h))))
+  refused-bytes how choice lines b cs code at (comment right count place is) h = of-frames cs (packet_bytes.right b (map (λ c. c.frame) cs) right.capture h)
+
+  refused-carry : (how : Manner) (choice : Choice) (lines : ℕ) (b : List ℕ) (cs : List Carrier) (code : RefusalCode) (at : ℕ) → IsRefusedAt how choice lines b cs code at → AreCarriers how choice cs
+  refused-carry how choice lines b cs code at (fault c found carry few is) = carry
+  refused-carry how choice lines b cs code at (packet front bytes rest next is_next split has timed count place is) = is_next.before.are
+  refused-carry how choice lines b cs code at (timeless front bytes rest next is_next split lacks few place is) = is_next.before.are
+  refused-carry how choice lines b cs code at (comment right count place is) = right.are
+
+  begun-bytes : (how : Manner) (choice : Choice) (b : List ℕ) (cs : List Carrier) → BeginsWith how choice b cs → Bytes b → AllByRecursion (λ c. Bytes c.frame.bytes) cs
+  begun-bytes how choice b cs (nothing e) h = subst (AllByRecursion (λ (c : Carrier). Bytes c.frame.bytes)) (sym e) tt
+  begun-bytes how choice b cs (something front rest split right) h = of-frames cs (packet_bytes.right front (map (λ c. c.frame) cs) right.capture (all-left IsByte front rest (subst Bytes split h)))
+
+  begun-carry : (how : Manner) (choice : Choice) (b : List ℕ) (cs : List Carrier) → BeginsWith how choice b cs → AreCarriers how choice cs
+  begun-carry how choice b cs (nothing e) = subst (AreCarriers how choice) (sym e) (record { carry = tt; logged = tt; timed = tt })
+  begun-carry how choice b cs (something front rest split right) = right.are
 
   module _ (names : (t : List ℕ) → (is_name t ≡ true) ↔ IsName t) (addresses : (t : List ℕ) (a : ℕ) → (address_in t ≡ Some a) ↔ ((a < 2 ^ 32) × (t ≡ address_text a))) where
     -- a file is whole, and says its datagrams
-    pub record FileSays (how : Authentication) (file : File) (answer : Result Status RunError) (rest : List ℕ) (records : List Numbered) : Type 0 where
+    pub record FileSays (how : Manner) (file : File) (answer : Result Status RunError) (rest : List ℕ) (records : List Numbered) : Type 0 where
       pub done : answer ≡ Ok Done
       pub captures : List Captured
       pub has : HasDatagrams how file captures
       pub says : Says rest records captures
 
-    pub file-says : (how : Authentication) (n k lines : ℕ) (file : File) (text : List ℕ) (after : ℕ) (answer : Result Status RunError) (rest : List ℕ) (records : List Numbered) → IsFile file
+    pub file-says : (how : Manner) (n k lines : ℕ) (file : File) (text : List ℕ) (after : ℕ) (answer : Result Status RunError) (rest : List ℕ) (records : List Numbered) → how.times ≡ false → IsFile file
         → FileText how k lines file.part file.bytes text after answer → Reads n (text ++ rest) records → FileSays how file answer rest records
-    file-says how n k lines file text after answer rest records is (whole cs right count few e f) reads =
+    file-says how n k lines file text after answer rest records plain is (whole cs right count few e f) reads =
         let link = file.part.link in
         let choice = file.part.choice in
-        let c = comment_line k link (counts_of how cs) in
+        let bare = without-times how choice cs plain right.are in
+        let c = comment_line k link (counts_of how cs) None in
+        let same : comment_line k link (counts_of how cs) (span_of cs) ≡ c = ap (comment_line k link (counts_of how cs)) (no-times None cs bare) in
         let bytes = of-frames cs (packet_bytes.right file.bytes (map (λ c. c.frame) cs) right.capture is.bytes) in
-        let say = packets-say names addresses how n link cs (c ++ rest) records is.name (senders choice cs bytes right.are) bytes
-        (subst (λ l. Reads n l records) (ap (λ l. l ++ rest) e ∙ append_assoc (packet_lines how link cs) c rest) reads) in
+        let say = packets-say names addresses how n link cs (c ++ rest) records is.name bare (senders how choice cs bytes right.are) bytes
+        (subst (λ l. Reads n l records) (ap (λ l. l ++ rest) (e ∙ ap (λ l. packet_lines how link cs ++ l) same) ∙ append_assoc (packet_lines how link cs) c rest) reads) in
         let says = say.says in
         record {
           done = f ∙ ap Ok (whole-status how cs say.whole);
-          captures = flat_map (λ c. datagram_in how link c.frame.bytes c.logged) cs;
+          captures = flat_map (λ c. datagram_in how.authentication link c.frame.bytes c.logged) cs;
           has = record { carriers = cs; capture = right; whole = say.whole; own = own-all origins choice None cs right.are.logged; datagrams = refl };
           says = record {
             lines = says.lines + 1;
@@ -297,23 +326,23 @@ module _ (packet_bytes : PacketBytes) (origins : SomeOrigin) where
             reads = comment-skipped says.lines k link (counts_of how cs) rest says.later is.name says.reads;
           };
         }
-    file-says how n k lines file text after answer rest records is (refused cs code at found e f) reads =
+    file-says how n k lines file text after answer rest records plain is (refused cs code at found e f) reads =
         let link = file.part.link in
         let choice = file.part.choice in
         let bad = file_refusal_line k link code at in
-        let bytes = refused-bytes choice lines file.bytes cs code at found is.bytes in
-        let say = packets-say names addresses how n link cs (bad ++ rest) records is.name (senders choice cs bytes (refused-carry choice lines file.bytes cs code at found)) bytes
+        let bytes = refused-bytes how choice lines file.bytes cs code at found is.bytes in
+        let say = packets-say names addresses how n link cs (bad ++ rest) records is.name (without-times how choice cs plain (refused-carry how choice lines file.bytes cs code at found)) (senders how choice cs bytes (refused-carry how choice lines file.bytes cs code at found)) bytes
         (subst (λ l. Reads n l records) (ap (λ l. l ++ rest) e ∙ append_assoc (packet_lines how link cs) bad rest) reads) in
         absurd (refusal-bad say.says.lines k link code at rest say.says.later is.name say.says.reads)
-    file-says how n k lines file text after answer rest records is (unread cs begun few e f) reads =
+    file-says how n k lines file text after answer rest records plain is (unread cs begun few e f) reads =
         let link = file.part.link in
         let choice = file.part.choice in
         let bad = line (codes "failed: read") in
-        let bytes = begun-bytes choice file.bytes cs begun is.bytes in
-        let say = packets-say names addresses how n link cs (bad ++ rest) records is.name (senders choice cs bytes (begun-carry choice file.bytes cs begun)) bytes
+        let bytes = begun-bytes how choice file.bytes cs begun is.bytes in
+        let say = packets-say names addresses how n link cs (bad ++ rest) records is.name (without-times how choice cs plain (begun-carry how choice file.bytes cs begun)) (senders how choice cs bytes (begun-carry how choice file.bytes cs begun)) bytes
         (subst (λ l. Reads n l records) (ap (λ l. l ++ rest) e ∙ append_assoc (packet_lines how link cs) bad rest) reads) in
         absurd (failed-bad say.says.lines (codes "failed: read") rest say.says.later (tested 32 (codes "failed: read") refl) refl say.says.reads)
-    file-says how n k lines file text after answer rest records is (memory e f) reads =
+    file-says how n k lines file text after answer rest records plain is (memory e f) reads =
         absurd (failed-bad n (codes "failed: memory") rest records (tested 32 (codes "failed: memory") refl) refl (subst (λ l. Reads n (l ++ rest) records) e reads))
 
     -- ---- logs
@@ -321,19 +350,19 @@ module _ (packet_bytes : PacketBytes) (origins : SomeOrigin) where
     ok-of : {s t : Status} → ◌≡◌ {A = Result Status RunError} (Ok s) (Ok t) → s ≡ t
     ok-of e = cc e
 
-    pub record FilesSay (how : Authentication) (files : List File) (status : Status) (rest : List ℕ) (records : List Numbered) : Type 0 where
+    pub record FilesSay (how : Manner) (files : List File) (status : Status) (rest : List ℕ) (records : List Numbered) : Type 0 where
       pub done : status ≡ Done
       pub captures : List Captured
       pub have : HaveDatagrams how files captures
       pub says : Says rest records captures
 
-    pub files-say : (how : Authentication) (files : List File) (text : List ℕ) (lines : ℕ) (status : Status) (rest : List ℕ) (records : List Numbered) → AllByRecursion IsFile files
+    pub files-say : (how : Manner) (files : List File) (text : List ℕ) (lines : ℕ) (status : Status) (rest : List ℕ) (records : List Numbered) → how.times ≡ false → AllByRecursion IsFile files
         → SoFar how files text lines status → Reads 0 (text ++ rest) records → FilesSay how files status rest records
-    files-say how files text lines status rest records are none reads = record { done = refl; captures = []; have = refl; says = says-none 0 rest records reads }
-    files-say how _ _ _ _ rest records are (more files file text part lines after before status so_far go_on is) reads =
+    files-say how files text lines status rest records plain are none reads = record { done = refl; captures = []; have = refl; says = says-none 0 rest records reads }
+    files-say how _ _ _ _ rest records plain are (more files file text part lines after before status so_far go_on is) reads =
         let behind = part ++ rest in
-        let front = files-say how files text lines before behind records (all-left IsFile files (file ∷ []) are) so_far (subst (λ l. Reads 0 l records) (append_assoc text part rest) reads) in
-        let last = file-says how front.says.lines (length files + 1) lines file part after (Ok status) rest front.says.later (all-right IsFile files (file ∷ []) are).0 is front.says.reads in
+        let front = files-say how files text lines before behind records plain (all-left IsFile files (file ∷ []) are) so_far (subst (λ l. Reads 0 l records) (append_assoc text part rest) reads) in
+        let last = file-says how front.says.lines (length files + 1) lines file part after (Ok status) rest front.says.later plain (all-right IsFile files (file ∷ []) are).0 is front.says.reads in
         record {
           done = ap (λ s. worse s status) front.done ∙ ok-of last.done;
           captures = front.captures ++ last.captures;
@@ -345,28 +374,28 @@ module _ (packet_bytes : PacketBytes) (origins : SomeOrigin) where
     pub at-end : (n : ℕ) (records : List Numbered) → Reads n [] records → records ≡ []
     at-end n records e = sym (ap (λ (l : Log). l.records) e)
 
-    pub log-says : (how : Authentication) (files : List File) (text : List ℕ) (answer : Result Status RunError) (records : List Numbered) → AllByRecursion IsFile files → LogOf how files text answer →
+    pub log-says : (how : Manner) (files : List File) (text : List ℕ) (answer : Result Status RunError) (records : List Numbered) → how.times ≡ false → AllByRecursion IsFile files → LogOf how files text answer →
         Reads 0 text records
         → (answer ≡ Ok Done) × HaveDatagrams how files (map (λ r. r.capture) records)
-    log-says how files text answer records are (all lines status so_far f) reads =
-        let say = files-say how files text lines status [] records are so_far (subst (λ l. Reads 0 l records) (sym (append-nil text)) reads) in
+    log-says how files text answer records plain are (all lines status so_far f) reads =
+        let say = files-say how files text lines status [] records plain are so_far (subst (λ l. Reads 0 l records) (sym (append-nil text)) reads) in
         let says = say.says in
         let whole = says.whole ∙ ap (λ l. says.front ++ l) (at-end says.lines says.later says.reads) ∙ append-nil says.front in
         (f ∙ ap Ok say.done, subst (HaveDatagrams how files) (sym (ap (map (λ (r : Numbered). r.capture)) whole ∙ says.said)) say.have)
-    log-says how files text answer records are (stopped before after file front part lines more_lines status so_far is stop e f) reads =
+    log-says how files text answer records plain are (stopped before after file front part lines more_lines status so_far is stop e f) reads =
         let good = subst (AllByRecursion IsFile) e are in
-        let say = files-say how before front lines status part records (all-left IsFile before (file ∷ after) good) so_far (subst (λ l. Reads 0 l records) f reads) in
-        let last = file-says how say.says.lines (length before + 1) lines file part more_lines answer [] say.says.later (all-right IsFile before (file ∷ after) good).0 is
+        let say = files-say how before front lines status part records plain (all-left IsFile before (file ∷ after) good) so_far (subst (λ l. Reads 0 l records) f reads) in
+        let last = file-says how say.says.lines (length before + 1) lines file part more_lines answer [] say.says.later plain (all-right IsFile before (file ∷ after) good).0 is
         (subst (λ l. Reads say.says.lines l say.says.later) (sym (append-nil part)) say.says.reads) in
         absurd (not-done stop last.done) where
           not-done : (answer ≡ Ok Refused) ⊎ (is_err answer ≡ true) → answer ≡ Ok Done → ⊥
           not-done (inl e) f = cc (e, f)
           not-done (inr e) f = cc (e, ap is_err f)
 
-    pub file-records : (how : Authentication) (k lines : ℕ) (file : File) (text : List ℕ) (after : ℕ) (answer : Result Status RunError) (records : List Numbered) → IsFile file
+    pub file-records : (how : Manner) (k lines : ℕ) (file : File) (text : List ℕ) (after : ℕ) (answer : Result Status RunError) (records : List Numbered) → how.times ≡ false → IsFile file
         → FileText how k lines file.part file.bytes text after answer → Reads 0 text records → (answer ≡ Ok Done) × HasDatagrams how file (map (λ r. r.capture) records)
-    file-records how k lines file text after answer records is file_text reads =
-        let say = file-says how 0 k lines file text after answer [] records is file_text (subst (λ l. Reads 0 l records) (sym (append-nil text)) reads) in
+    file-records how k lines file text after answer records plain is file_text reads =
+        let say = file-says how 0 k lines file text after answer [] records plain is file_text (subst (λ l. Reads 0 l records) (sym (append-nil text)) reads) in
         let says = say.says in
         let whole = says.whole ∙ ap (λ l. says.front ++ l) (at-end says.lines says.later says.reads) ∙ append-nil says.front in
         (say.done, subst (HasDatagrams how file) (sym (ap (map (λ (r : Numbered). r.capture)) whole ∙ says.said)) say.has)
@@ -376,7 +405,7 @@ module _ (packet_bytes : PacketBytes) (origins : SomeOrigin) where
 ends-line : (front text : List ℕ) → EndsLine (front ++ line text)
 ends-line front text = inr (front ++ text, sym (append_assoc front text (10 ∷ [])))
 
-pub text-ends : (how : Authentication) (k lines : ℕ) (part : Part) (b text : List ℕ) (after : ℕ) (answer : Result Status RunError) → FileText how k lines part b text after answer → EndsLine text
+pub text-ends : (how : Manner) (k lines : ℕ) (part : Part) (b text : List ℕ) (after : ℕ) (answer : Result Status RunError) → FileText how k lines part b text after answer → EndsLine text
 unfolding file_refusal_line
 text-ends how k lines part b text after answer (whole cs right count few e f) = subst EndsLine (sym e) (ends-line (packet_lines how part.link cs) _)
 text-ends how k lines part b text after answer (refused cs code at found e f) =

@@ -32,6 +32,8 @@ use Rattle.rip_report.specs.declared.captures.logged.Logged.{Logged}
 use Rattle.rip_report.specs.declared.captures.logged.Logged.TheVariants.{As, Mixed}
 use Rattle.rip_report.specs.LoggedDatagrams.{as_asked, logged_datagram}
 use Rattle.rip_report.specs.Written.{line}
+use Rattle.rip_report.specs.LineTimes.{time_part}
+use Rattle.rip_report.specs.declared.captures.manner.Manner.{Manner}
 use Rattle.rip_report.specs.declared.captures.authentication.Authentication.{Authentication}
 use Rattle.rip_report.specs.declared.captures.authentication.Authentication.TheVariants.{AsSent, Removed}
 use Rattle.rip_report.proofs.LogLineLemmas.{Bytes, ComesTo, HasFirst, High, Reads, Spaced, address-high, address-some, all-both, all-same, all-take, bad-line, bytes-at, comes-to, digits-high, field-first, field-last, if-no, if-yes, name-high, record-line, spaced, tested}
@@ -247,20 +249,22 @@ module _ (names : (t : List ℕ) → (is_name t ≡ true) ↔ IsName t) (address
   packet-says how n link frame (Mixed a) rest records name h small reads = absurd (lacking n link a (codes "mixed") rest records Hex name (tested 33 (codes "mixed") refl) (omega arith) mixed-bad reads)
 
   -- packets are whole, and say their datagrams
-  pub record PacketsSay (how : Authentication) (link : List ℕ) (cs : List Carrier) (rest : List ℕ) (records : List Numbered) : Type 0 where
+  pub record PacketsSay (how : Manner) (link : List ℕ) (cs : List Carrier) (rest : List ℕ) (records : List Numbered) : Type 0 where
     pub whole : AllByRecursion (λ c. is_whole c.logged ≡ true) cs
-    pub says : Says rest records (flat_map (λ c. datagram_in how link c.frame.bytes c.logged) cs)
+    pub says : Says rest records (flat_map (λ c. datagram_in how.authentication link c.frame.bytes c.logged) cs)
 
-  pub packets-say : (how : Authentication) (n : ℕ) (link : List ℕ) (cs : List Carrier) (rest : List ℕ) (records : List Numbered) → IsName link → AllByRecursion (λ c. HasSender c.logged) cs →
+  pub packets-say : (how : Manner) (n : ℕ) (link : List ℕ) (cs : List Carrier) (rest : List ℕ) (records : List Numbered) → IsName link → AllByRecursion (λ c. c.at ≡ None) cs → AllByRecursion (λ c. HasSender c.logged) cs →
       AllByRecursion (λ c. Bytes c.frame.bytes) cs
       → Reads n (packet_lines how link cs ++ rest) records → PacketsSay how link cs rest records
-  packets-say how n link [] rest records name carry h reads = record { whole = tt; says = says-none n rest records reads }
-  packets-say how n link (c ∷ cs) rest records name carry h reads =
+  packets-say how n link [] rest records name bare carry h reads = record { whole = tt; says = says-none n rest records reads }
+  packets-say how n link (c ∷ cs) rest records name bare carry h reads =
       let after = packet_lines how link cs ++ rest in
-      let one = packet-says how n link c.frame.bytes c.logged after records name h.0 carry.0
-      (subst (λ l. Reads n l records) (append_assoc (logged_line how link c.frame.bytes c.logged) (packet_lines how link cs) rest) reads) in
-      let more = packets-say how one.says.lines link cs rest one.says.later name carry.1 h.1 one.says.reads in
+      let line = logged_line how.authentication link c.frame.bytes c.logged in
+      let first : time_part c.at ++ line ≡ line = rw bare.0 refl in
+      let one = packet-says how.authentication n link c.frame.bytes c.logged after records name h.0 carry.0
+      (subst (λ l. Reads n l records) (ap (λ l. l ++ packet_lines how link cs ++ rest) first ∙ append_assoc line (packet_lines how link cs) rest) reads) in
+      let more = packets-say how one.says.lines link cs rest one.says.later name bare.1 carry.1 h.1 one.says.reads in
       record {
         whole = (one.whole, more.whole);
-        says = says-more after rest records (datagram_in how link c.frame.bytes c.logged) (flat_map (λ d. datagram_in how link d.frame.bytes d.logged) cs) one.says more.says;
+        says = says-more after rest records (datagram_in how.authentication link c.frame.bytes c.logged) (flat_map (λ d. datagram_in how.authentication link d.frame.bytes d.logged) cs) one.says more.says;
       }

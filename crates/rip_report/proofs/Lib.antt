@@ -20,5 +20,6 @@ pub mod CaptureFileLemmas
 pub mod LogLineLemmas
 pub mod CapturedLogLemmas
 pub mod SelectionLemmas
+pub mod LineTimeLemmas
 pub mod CapturedFileLemmas
 pub mod SaidFileLemmas

@@ -31,7 +31,7 @@ sender-carried t frame Unknown h carries = tt
 sender-carried t frame Elsewhere h carries = tt
 sender-carried t frame Others h carries = tt
 
-sender-logged : (choice : Choice) (first : Option Frame) (c : Carrier) → Bytes c.frame.bytes → IsCarrier c → IsLogged choice first c → HasSender c.logged
+sender-logged : (choice : Choice) (first : Option Frame) (c : Carrier) → Bytes c.frame.bytes → IsCarrier c → IsLogged choice first c.frame c.carried c.logged → HasSender c.logged
 sender-logged choice first c h carries (own belongs is) = subst HasSender (sym is) (sender-carried c.frame.link_type c.frame.bytes c.carried h carries)
 sender-logged choice first c h carries (mixed sender one never known is) = subst HasSender (sym is) tt
 sender-logged choice first c h carries (other name vlans of never is) = subst HasSender (sym is) tt
@@ -69,7 +69,7 @@ module _ (origins : SomeOrigin) where
       let origin = origins p in
       subst (λ (o : Option Frame). IsOwn OneOrigin o p) (sym (ap (λ o. first_behind o cs) it ∙ first-stays p cs)) (record { origin = origin.0; first = origin.1; second = origin.1 })
 
-  own-logged : (choice : Choice) (first : Option Frame) (c : Carrier) (cs : List Carrier) → IsLogged choice first c → such is_datagram c.logged ≡ true →
+  own-logged : (choice : Choice) (first : Option Frame) (c : Carrier) (cs : List Carrier) → IsLogged choice first c.frame c.carried c.logged → such is_datagram c.logged ≡ true →
       IsOwn choice (first_behind (first_with first c.frame c.carried) cs) c.frame
   own-logged choice first c cs (own belongs is) datagram = own-belongs choice first c.frame c.carried cs (sym (ap (such is_datagram) is) ∙ datagram) belongs
   own-logged choice first c cs (mixed sender one never known is) datagram = absurd (cc (sym datagram ∙ ap (such is_datagram) is))

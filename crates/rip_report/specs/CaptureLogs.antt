@@ -7,23 +7,25 @@ use Rattle.rip_log.specs.LogText.{EndsLine, LogText}
 use Rattle.rip_log.specs.Logs.{Numbered}
 use Rattle.rip_log.specs.Taken.{Taken, Took}
 use Rattle.rip_log.specs.declared.limits.TheConstants.{MOST_LINES}
-use Rattle.rip_capture.specs.Captures.{CaptureFault, HasNoMore, IsNext}
+use Rattle.rip_capture.specs.Captures.{CaptureFault, HasNoMore, IsCapture, IsNext}
 use Rattle.rip_capture.specs.Pcap.{Frame}
 use Rattle.rip_log.specs.Spans.{slice_of}
 use Rattle.rip_capture.specs.declared.error.CaptureCode.{CaptureCode}
 use Rattle.rip_capture.specs.declared.packet.Carried.{Carried}
 use Rattle.rip_capture.specs.declared.packet.Carried.TheVariants.{Datagram, Elsewhere, Others}
-use Rattle.rip_report.specs.CaptureText.{AreCarriers, IsCaptureOf, comment_line, counted_status, counts_of, file_refusal_line, has_line, is_datagram, line_count, packet_lines, such}
-use Rattle.rip_report.specs.Selections.{Carrier, Choice, HaveOneOrigin, OfInterface, OfVlans, OneOrigin, Of, Part, first_behind}
+use Rattle.rip_report.specs.CaptureText.{AreCarriers, HasTime, LacksTime, IsCaptureOf, comment_line, counted_status, counts_of, file_refusal_line, has_line, is_datagram, line_count, packet_lines, such}
+use Rattle.rip_report.specs.LineTimes.{span_of}
+use Rattle.rip_report.specs.Selections.{Carrier, Choice, HaveOneOrigin, IsCarrier, IsLogged, OfInterface, OfVlans, OneOrigin, Of, Part, first_behind}
 use Rattle.rip_report.specs.LoggedDatagrams.{logged_datagram}
 use Rattle.rip_report.specs.declared.captures.logged.Logged.{Logged}
 use Rattle.rip_report.specs.declared.captures.logged.Logged.TheVariants.{As}
 use Rattle.rip_report.specs.Sent.{Began}
 use Rattle.rip_report.specs.Written.{line}
 use Rattle.rip_report.specs.declared.captures.authentication.Authentication.{Authentication}
+use Rattle.rip_report.specs.declared.captures.manner.Manner.{Manner}
 use Rattle.rip_report.specs.declared.captures.log.CaptureLog.{CaptureLog}
 use Rattle.rip_report.specs.declared.captures.ending.RefusalCode.{RefusalCode}
-use Rattle.rip_report.specs.declared.captures.ending.RefusalCode.TheVariants.{Capture, TooManyLines}
+use Rattle.rip_report.specs.declared.captures.ending.RefusalCode.TheVariants.{Capture, Time, TooManyLines}
 use Rattle.rip_report.specs.declared.status.RunError.{RunError}
 use Rattle.rip_report.specs.declared.status.RunError.TheVariants.{Read, Write, Memory}
 use Rattle.rip_report.specs.declared.status.Status.{Status}
@@ -31,9 +33,9 @@ use Rattle.rip_report.specs.declared.status.Status.TheVariants.{Done, Refused}
 
 -- ---- what was written so far
 
--- what becomes of the authentication of datagrams
-abbrev pub authentication_of : CaptureLog → Authentication
-authentication_of log = log.authentication
+-- how it is written
+abbrev pub manner_of : CaptureLog → Manner
+manner_of log = log.manner
 
 -- how many files
 abbrev pub files_of : CaptureLog → ℕ
@@ -50,42 +52,53 @@ status_of log = log.status
 -- ---- a file
 
 -- a beginning of these bytes is a capture of these packets, or there are none
-pub data BeginsWith (choice : Choice) (b : List ℕ) (carriers : List Carrier) : Type 0 where
-  none : carriers ≡ [] → BeginsWith choice b carriers
-  some : (front rest : List ℕ) → b ≡ front ++ rest → IsCaptureOf choice front carriers →
-      BeginsWith choice b carriers
+pub data BeginsWith (how : Manner) (choice : Choice) (b : List ℕ) (carriers : List Carrier) : Type 0 where
+  none : carriers ≡ [] → BeginsWith how choice b carriers
+  some : (front rest : List ℕ) → b ≡ front ++ rest → IsCaptureOf how choice front carriers →
+      BeginsWith how choice b carriers
 
--- a file is refused behind these packets, of a log of so many lines: by its first fault, or where
--- the line of the next packet, or the comment, would be one too many
-pub data IsRefusedAt (choice : Choice) (lines : ℕ) (b : List ℕ) (carriers : List Carrier)
-    (code : RefusalCode) (at : ℕ) : Type 0 where
+-- a packet is the next one of a file, behind these
+pub record IsNextPacket (how : Manner) (choice : Choice) (front more : List ℕ)
+    (carriers : List Carrier) (next : Carrier) : Type 0 where
+  pub before : IsCaptureOf how choice front carriers
+  pub longer : IsCapture (front ++ more) (map (λ c. c.frame) (carriers ++ next ∷ []))
+  pub behind : IsNext front more (map (λ c. c.frame) carriers)
+  pub carries : IsCarrier next
+  pub logged : IsLogged choice (first_behind None carriers) next.frame next.carried next.logged
+
+-- a file is refused behind these packets, of a log of so many lines: by its first fault, where
+-- the line of the next packet has no time, or where that line, or the comment, would be one too many
+pub data IsRefusedAt (how : Manner) (choice : Choice) (lines : ℕ) (b : List ℕ)
+    (carriers : List Carrier) (code : RefusalCode) (at : ℕ) : Type 0 where
   fault : (fault : CaptureCode) → CaptureFault b (map (λ c. c.frame) carriers) fault at →
-      AreCarriers choice carriers → lines + line_count carriers ≤ MOST_LINES →
-      code ≡ Capture fault → IsRefusedAt choice lines b carriers code at
-  packet : (front more rest : List ℕ) (next : Carrier) → IsCaptureOf choice front carriers →
-      IsCaptureOf choice (front ++ more) (carriers ++ next ∷ []) →
-      IsNext front more (map (λ c. c.frame) carriers) →
-      b ≡ (front ++ more) ++ rest →
-      has_line next.logged ≡ true → lines + line_count carriers ≡ MOST_LINES → at ≡ length front →
-      code ≡ TooManyLines → IsRefusedAt choice lines b carriers code at
-  comment : IsCaptureOf choice b carriers → lines + line_count carriers ≡ MOST_LINES → at ≡ length b →
-      code ≡ TooManyLines → IsRefusedAt choice lines b carriers code at
+      AreCarriers how choice carriers → lines + line_count carriers ≤ MOST_LINES →
+      code ≡ Capture fault → IsRefusedAt how choice lines b carriers code at
+  packet : (front more rest : List ℕ) (next : Carrier) →
+      IsNextPacket how choice front more carriers next → b ≡ (front ++ more) ++ rest →
+      has_line next.logged ≡ true → HasTime how next → lines + line_count carriers ≡ MOST_LINES →
+      at ≡ length front → code ≡ TooManyLines → IsRefusedAt how choice lines b carriers code at
+  time : (front more rest : List ℕ) (next : Carrier) →
+      IsNextPacket how choice front more carriers next → b ≡ (front ++ more) ++ rest →
+      LacksTime how next → lines + line_count carriers ≤ MOST_LINES →
+      at ≡ length front → code ≡ Time → IsRefusedAt how choice lines b carriers code at
+  comment : IsCaptureOf how choice b carriers → lines + line_count carriers ≡ MOST_LINES → at ≡ length b →
+      code ≡ TooManyLines → IsRefusedAt how choice lines b carriers code at
 
 -- what a log has of the file of this number, behind so many lines, and, where the file is whole,
 -- how many lines it then has
-pub data FileText (how : Authentication) (number lines : ℕ) (part : Part) (b text : List ℕ)
+pub data FileText (how : Manner) (number lines : ℕ) (part : Part) (b text : List ℕ)
     (after : ℕ) (answer : Result Status RunError) : Type 0 where
-  whole : (carriers : List Carrier) → IsCaptureOf part.choice b carriers →
+  whole : (carriers : List Carrier) → IsCaptureOf how part.choice b carriers →
       after ≡ lines + line_count carriers + 1 → after ≤ MOST_LINES →
       text ≡ packet_lines how part.link carriers
-      ++ comment_line number part.link (counts_of how carriers) →
+      ++ comment_line number part.link (counts_of how carriers) (span_of carriers) →
       answer ≡ Ok (counted_status (counts_of how carriers)) →
       FileText how number lines part b text after answer
   refused : (carriers : List Carrier) (code : RefusalCode) (at : ℕ) →
-      IsRefusedAt part.choice lines b carriers code at →
+      IsRefusedAt how part.choice lines b carriers code at →
       text ≡ packet_lines how part.link carriers ++ file_refusal_line number part.link code at →
       answer ≡ Ok Refused → FileText how number lines part b text after answer
-  unread : (carriers : List Carrier) → BeginsWith part.choice b carriers →
+  unread : (carriers : List Carrier) → BeginsWith how part.choice b carriers →
       lines + line_count carriers ≤ MOST_LINES →
       text ≡ packet_lines how part.link carriers ++ line (codes "failed: read") →
       answer ≡ Err Read → FileText how number lines part b text after answer
@@ -93,11 +106,11 @@ pub data FileText (how : Authentication) (number lines : ℕ) (part : Part) (b t
       FileText how number lines part b text after answer
 
 -- what was to go out of a file where the sink failed: its text, or the lines of its first packets
-pub data FileFront (how : Authentication) (number lines : ℕ) (part : Part) (b text : List ℕ)
+pub data FileFront (how : Manner) (number lines : ℕ) (part : Part) (b text : List ℕ)
     : Type 0 where
   text : (after : ℕ) (answer : Result Status RunError) →
       FileText how number lines part b text after answer → FileFront how number lines part b text
-  packets : (carriers : List Carrier) → BeginsWith part.choice b carriers →
+  packets : (carriers : List Carrier) → BeginsWith how part.choice b carriers →
       lines + line_count carriers ≤ MOST_LINES → text ≡ packet_lines how part.link carriers →
       FileFront how number lines part b text
 
@@ -110,7 +123,7 @@ worse other status = other
 abbrev pub Follows : CaptureLog → CaptureLog → ℕ → Result Status RunError → Type 0
 Follows before after lines (Ok Refused) = after ≡ before
 Follows before after lines (Ok status) =
-    (authentication_of after ≡ authentication_of before)
+    (manner_of after ≡ manner_of before)
     × (files_of after ≡ files_of before + 1) × (lines_of after ≡ lines)
     × (status_of after ≡ worse (status_of before) status)
 Follows before after lines (Err e) = after ≡ before
@@ -129,14 +142,14 @@ pub record AddsFile
   -- the text of the file went out, and nothing else
   pub text : answer ≢ Err Write →
       (text : List ℕ) × (lines : ℕ)
-      × FileText (authentication_of before) (files_of before + 1) (lines_of before) part b text
+      × FileText (manner_of before) (files_of before + 1) (lines_of before) part b text
       lines answer
       × Took (taken old) (taken new) text × Follows before after lines answer
   -- the sink has failed, and a beginning went out
   pub write : answer ≡ Err Write →
       (broken new ≡ true)
       × ((text : List ℕ)
-      × FileFront (authentication_of before) (files_of before + 1) (lines_of before) part b text
+      × FileFront (manner_of before) (files_of before + 1) (lines_of before) part b text
       × Began (taken old) (taken new) text)
   -- every other answer leaves the sink's mark as it was
   pub sink : answer ≢ Err Write → broken new ≡ broken old
@@ -146,10 +159,10 @@ pub record AddsFile
 -- what a run leaves where the source failed, which had given these bytes: the line of each packet
 -- that is whole in them went out, unless they are too long for their offsets, and that the source
 -- failed
-pub record AddsUnread {K : Type 0} (taken : K → Taken) (old new : K) (how : Authentication)
+pub record AddsUnread {K : Type 0} (taken : K → Taken) (old new : K) (how : Manner)
     (part : Part) (b : List ℕ) : Type 0 where
   pub carriers : List Carrier
-  pub begins : BeginsWith part.choice b carriers
+  pub begins : BeginsWith how part.choice b carriers
   pub all : HasNoMore b (map (λ c. c.frame) carriers) ⊎ (2 ^ 64 ≤ length b + 2 ^ 32)
   pub text : Took (taken old) (taken new)
       (packet_lines how part.link carriers ++ line (codes "failed: read"))
@@ -163,7 +176,7 @@ pub record File : Type 0 where
 
 -- the log of these files, each of which is a capture: its text, how many lines it has, and its
 -- status
-pub data SoFar (how : Authentication) : List File → List ℕ → ℕ → Status → Type 0 where
+pub data SoFar (how : Manner) : List File → List ℕ → ℕ → Status → Type 0 where
   none : SoFar how [] [] 0 Done
   more : (files : List File) (file : File) (text part : List ℕ) (lines after : ℕ)
       (before status : Status) → SoFar how files text lines before → status ≢ Refused →
@@ -171,7 +184,7 @@ pub data SoFar (how : Authentication) : List File → List ℕ → ℕ → Statu
       SoFar how (files ++ file ∷ []) (text ++ part) after (worse before status)
 
 -- the log of these files: of all, or up to one that is refused or could not be read
-pub data LogOf (how : Authentication) (files : List File) (text : List ℕ)
+pub data LogOf (how : Manner) (files : List File) (text : List ℕ)
     (answer : Result Status RunError) : Type 0 where
   all : (lines : ℕ) (status : Status) → SoFar how files text lines status → answer ≡ Ok status →
       LogOf how files text answer
@@ -184,13 +197,13 @@ pub data LogOf (how : Authentication) (files : List File) (text : List ℕ)
 -- a log has these files, each a capture, and this text
 pub record IsLogOf (log : CaptureLog) (files : List File) (text : List ℕ) : Type 0 where
   pub count : files_of log ≡ length files
-  pub so_far : SoFar (authentication_of log) files text (lines_of log) (status_of log)
+  pub so_far : SoFar (manner_of log) files text (lines_of log) (status_of log)
 
 -- what became of a log by the last of these files: it has that one too, or ends with it
 abbrev pub GoesOn : CaptureLog → List File → List ℕ → Result Status RunError → Type 0
-GoesOn log files out (Ok Refused) = LogOf (authentication_of log) files out (Ok Refused)
+GoesOn log files out (Ok Refused) = LogOf (manner_of log) files out (Ok Refused)
 GoesOn log files out (Ok status) = IsLogOf log files out
-GoesOn log files out (Err e) = LogOf (authentication_of log) files out (Err e)
+GoesOn log files out (Err e) = LogOf (manner_of log) files out (Err e)
 
 -- ---- the datagrams of files
 
@@ -229,18 +242,18 @@ IsOwn (Of name vlans) first p = OfInterface name p × OfVlans vlans p
 
 -- a file is a capture, each datagram of its link to 224.0.0.9 is there whole, and these are they,
 -- in order
-pub record HasDatagrams (how : Authentication) (file : File) (captures : List Captured)
+pub record HasDatagrams (how : Manner) (file : File) (captures : List Captured)
     : Type 0 where
   pub carriers : List Carrier
-  pub capture : IsCaptureOf file.part.choice file.bytes carriers
+  pub capture : IsCaptureOf how file.part.choice file.bytes carriers
   pub whole : AllByRecursion (λ c. is_whole c.logged ≡ true) carriers
   pub own : AllByRecursion (λ c. such is_datagram c.logged ≡ true →
       IsOwn file.part.choice (first_behind None carriers) c.frame) carriers
   pub datagrams : captures
-      ≡ flat_map (λ c. datagram_in how file.part.link c.frame.bytes c.logged) carriers
+      ≡ flat_map (λ c. datagram_in how.authentication file.part.link c.frame.bytes c.logged) carriers
 
 -- the same of files, one after the other
-abbrev pub HaveDatagrams : Authentication → List File → List Captured → Type 0
+abbrev pub HaveDatagrams : Manner → List File → List Captured → Type 0
 HaveDatagrams how [] captures = captures ≡ []
 HaveDatagrams how (file ∷ files) captures =
     (first rest : List Captured) × HasDatagrams how file first × HaveDatagrams how files rest
@@ -254,10 +267,10 @@ answer_so_far log (Ok Refused) = Ok Refused
 answer_so_far log (Ok status) = Ok (status_of log)
 answer_so_far log (Err e) = Err e
 
--- a text was written of these files, with this answer so far: it ends a line; and if no line of it
--- is bad, the answer is Done, each file is a capture, and the records are just their datagrams
-pub record SaysFiles (how : Authentication) (files : List File) (text : List ℕ)
+-- a text was written of these files, with this answer so far: it ends a line; and where it is
+-- without times, and no line of it is bad, the answer is Done, each file is a capture, and the records are just their datagrams
+pub record SaysFiles (how : Manner) (files : List File) (text : List ℕ)
     (answer : Result Status RunError) : Type 0 where
   pub ends : EndsLine text
-  pub says : AllByRecursion IsFile files → (records : List Numbered) → LogText text records
+  pub says : how.times ≡ false → AllByRecursion IsFile files → (records : List Numbered) → LogText text records
       → (answer ≡ Ok Done) × HaveDatagrams how files (map (λ r. r.capture) records)

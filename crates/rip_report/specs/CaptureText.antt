@@ -1,5 +1,5 @@
 -- The lines that `log` prints of the packets of a capture file.
-use Rattle.std.specs.Prelude.{ℕ, ◌+◌, ◌<◌, ◌≤◌, ◌^◌, ◌==◌, ◌&&◌, ◌||◌, if◌then◌else◌, Bool, true, false, List, [], ◌++◌, length, map, count_by, flat_map, codes, decimal, None}
+use Rattle.std.specs.Prelude.{◌≡◌, ℕ, ◌+◌, ◌<◌, ◌≤◌, ◌^◌, ◌==◌, ◌&&◌, ◌||◌, if◌then◌else◌, Bool, true, false, List, [], ◌++◌, length, map, count_by, flat_map, codes, decimal, Option, None}
 use Rattle.std.specs.List.{AllByRecursion}
 use Rattle.hex.specs.Hex.{encode_lower}
 use Rattle.rip_wire.specs.Address.{address_text}
@@ -10,28 +10,21 @@ use Rattle.rip_capture.specs.declared.error.CaptureCode.TheVariants as capture
 use Rattle.rip_capture.specs.declared.packet.Carried.{Carried}
 use Rattle.rip_capture.specs.declared.packet.Carried.TheVariants.{Datagram, Cut, Fragment, Malformed, Long, Unknown, Elsewhere, Others}
 use Rattle.rip_report.specs.LeftOut.{count_part}
+use Rattle.rip_report.specs.LineTimes.{HasMicros, IsTimed, span_of, span_part, time_part}
 use Rattle.rip_report.specs.Selections.{AreLogged, Carrier, Choice, IsCarrier}
+use Rattle.rip_log.specs.declared.time.date_time.DateTime.{DateTime}
 use Rattle.rip_report.specs.LoggedDatagrams.{logged_datagram, nothing_omitted, omitted_from}
 use Rattle.rip_report.specs.Written.{line}
 use Rattle.rip_report.specs.declared.captures.authentication.Authentication.{Authentication}
 use Rattle.rip_report.specs.declared.captures.authentication.Omitted.{Omitted}
+use Rattle.rip_report.specs.declared.captures.manner.Manner.{Manner}
 use Rattle.rip_report.specs.declared.captures.counts.PacketCounts.{PacketCounts}
 use Rattle.rip_report.specs.declared.captures.logged.Logged.{Logged}
 use Rattle.rip_report.specs.declared.captures.logged.Logged.TheVariants.{As, Mixed}
 use Rattle.rip_report.specs.declared.captures.ending.RefusalCode.{RefusalCode}
-use Rattle.rip_report.specs.declared.captures.ending.RefusalCode.TheVariants.{Capture, TooManyLines}
+use Rattle.rip_report.specs.declared.captures.ending.RefusalCode.TheVariants.{Capture, Time, TooManyLines}
 use Rattle.rip_report.specs.declared.status.Status.{Status}
 use Rattle.rip_report.specs.declared.status.Status.TheVariants.{Done, Unclear}
-
--- these are packets of a file from its first one on, of which a log has that
-pub record AreCarriers (choice : Choice) (carriers : List Carrier) : Type 0 where
-  pub carry : AllByRecursion IsCarrier carriers
-  pub logged : AreLogged choice None carriers
-
--- these bytes are a capture, up to here, of these packets
-pub record IsCaptureOf (choice : Choice) (b : List ℕ) (carriers : List Carrier) : Type 0 where
-  pub capture : IsCapture b (map (λ c. c.frame) carriers)
-  pub are : AreCarriers choice carriers
 
 -- ---- the line of a packet
 
@@ -57,9 +50,9 @@ logged_line how link frame (As carried) = carried_line how link frame carried
 logged_line how link frame (Mixed sender) = line (sender_part link sender ++ codes "mixed")
 
 -- the lines of packets, in order
-abbrev pub packet_lines : Authentication → List ℕ → List Carrier → List ℕ
-packet_lines how link carriers =
-    flat_map (λ c. logged_line how link c.frame.bytes c.logged) carriers
+abbrev pub packet_lines : Manner → List ℕ → List Carrier → List ℕ
+packet_lines how link carriers = flat_map
+    (λ c. time_part c.at ++ logged_line how.authentication link c.frame.bytes c.logged) carriers
 
 -- ---- how many packets there are of each kind
 
@@ -120,6 +113,31 @@ omitted_of how frame _ = nothing_omitted
 abbrev pub has_line : Logged → Bool
 has_line logged = such is_told logged || is_mixed logged
 
+-- a packet has a line, which begins with a time
+abbrev pub is_timed : Manner → Logged → Bool
+is_timed how logged = how.times && has_line logged
+
+-- a packet has a time, where its line has to begin with one
+abbrev pub HasTime : Manner → Carrier → Type 0
+HasTime how c = is_timed how c.logged ≡ true → (micros : ℕ) × HasMicros c.frame micros
+
+-- its line has to begin with one, and it has none
+pub record LacksTime (how : Manner) (c : Carrier) : Type 0 where
+  pub asked : is_timed how c.logged ≡ true
+  pub none : (micros : ℕ) → ¬ HasMicros c.frame micros
+
+-- these are packets of a file from its first one on, of which a log has that
+pub record AreCarriers (how : Manner) (choice : Choice) (carriers : List Carrier) : Type 0 where
+  pub carry : AllByRecursion IsCarrier carriers
+  pub logged : AreLogged choice None carriers
+  pub timed : AllByRecursion (λ c. IsTimed (is_timed how c.logged) c.frame c.at) carriers
+
+-- these bytes are a capture, up to here, of these packets
+pub record IsCaptureOf (how : Manner) (choice : Choice) (b : List ℕ) (carriers : List Carrier)
+    : Type 0 where
+  pub capture : IsCapture b (map (λ c. c.frame) carriers)
+  pub are : AreCarriers how choice carriers
+
 -- a datagram of which a log has a line lies within so many bytes of its frame
 abbrev pub LogLiesWithin : ℕ → Logged → Type 0
 LogLiesWithin size (As carried) = LiesWithin size carried
@@ -138,7 +156,7 @@ abbrev pub line_count : List Carrier → ℕ
 line_count carriers = count_by (λ c. has_line c.logged) carriers
 
 -- the packets, counted by what they carry
-abbrev pub counts_of : Authentication → List Carrier → PacketCounts
+abbrev pub counts_of : Manner → List Carrier → PacketCounts
 counts_of how carriers = record {
   packets = length carriers;
   datagrams = count_of is_datagram carriers;
@@ -147,9 +165,9 @@ counts_of how carriers = record {
   malformed = count_of is_malformed carriers;
   long = count_of is_long carriers;
   mixed = mixed_count carriers;
-  passwords = count_by (λ c. (omitted_of how c.frame.bytes c.logged).password) carriers;
+  passwords = count_by (λ c. (omitted_of how.authentication c.frame.bytes c.logged).password) carriers;
   without_authentication =
-      count_by (λ c. (omitted_of how c.frame.bytes c.logged).authentication) carriers;
+      count_by (λ c. (omitted_of how.authentication c.frame.bytes c.logged).authentication) carriers;
   elsewhere = count_of is_elsewhere carriers;
   others = count_of is_other carriers;
 }
@@ -227,8 +245,9 @@ other_part n =
     ++ count_part (codes ", ") n.others (codes " others")
 
 -- the comment behind the lines of a file
-abbrev pub comment_line : ℕ → List ℕ → PacketCounts → List ℕ
-comment_line number link n = line (comment_front number link n ++ (lacking_part n ++ other_part n))
+abbrev pub comment_line : ℕ → List ℕ → PacketCounts → Option (DateTime × DateTime) → List ℕ
+comment_line number link n span =
+    line (comment_front number link n ++ (lacking_part n ++ (other_part n ++ span_part span)))
 
 -- the number and the word of a code; of a source that failed it is never printed
 unfoldable pub refusal_code_text : RefusalCode → List ℕ
@@ -241,6 +260,7 @@ refusal_code_text (Capture capture.Interface) = codes "6 Interface"
 refusal_code_text (Capture capture.OldPacket) = codes "7 OldPacket"
 refusal_code_text (Capture capture.Read) = codes "Read"
 refusal_code_text TooManyLines = codes "8 TooManyLines"
+refusal_code_text Time = codes "9 Time"
 
 -- `refused: file 1 link a: 2 Cut at 0`
 unfoldable pub file_refusal_line : ℕ → List ℕ → RefusalCode → ℕ → List ℕ

@@ -27,6 +27,7 @@ pub mod Hearings
 pub mod Runs
 pub mod LoggedDatagrams
 pub mod Selections
+pub mod LineTimes
 pub mod CaptureText
 pub mod CaptureLogs
 pub mod CapturePackets

@@ -5,6 +5,7 @@ use Rattle.rip_capture.specs.Interfaces.{Named}
 use Rattle.rip_capture.specs.Origins.{IsOrigin, Origin}
 use Rattle.rip_capture.specs.Pcap.{Frame}
 use Rattle.rip_capture.specs.Vlans.{HasVlans}
+use Rattle.rip_log.specs.declared.time.date_time.DateTime.{DateTime}
 use Rattle.rip_capture.specs.declared.packet.Carried.{Carried}
 use Rattle.rip_capture.specs.declared.packet.Carried.TheVariants.{Datagram, Cut, Fragment, Malformed, Long, Unknown, Elsewhere, Others}
 use Rattle.rip_report.specs.declared.captures.logged.Logged.{Logged}
@@ -31,11 +32,13 @@ pub record Part : Type 0 where
 abbrev pub part_of : FilePart → Part
 part_of part = record { link = part.link.now; choice = choice_of part.packets }
 
--- a packet, what it carries, and what a log has of it
+-- a packet, what it carries, what a log has of it, and the time in front of its line, if there is
+-- one
 pub record Carrier : Type 0 where
   pub frame : Frame
   pub carried : Carried
   pub logged : Logged
+  pub at : Option DateTime
 
 -- it carries that
 abbrev pub IsCarrier : Carrier → Type 0
@@ -84,13 +87,14 @@ Belongs (Of name vlans) first p carried =
 
 -- what a log has of a packet, behind the first one whose sender is known: what it carries; or that
 -- it comes from elsewhere than that one; or nothing
-pub data IsLogged (choice : Choice) (first : Option Frame) (c : Carrier) : Type 0 where
-  own : Belongs choice first c.frame c.carried → c.logged ≡ As c.carried →
-      IsLogged choice first c
-  mixed : (sender : ℕ) → choice ≡ OneOrigin → ¬ Belongs choice first c.frame c.carried →
-      sender_of c.carried ≡ Some sender → c.logged ≡ Mixed sender → IsLogged choice first c
-  other : (name vlans : List ℕ) → choice ≡ Of name vlans →
-      ¬ Belongs choice first c.frame c.carried → c.logged ≡ As Others → IsLogged choice first c
+pub data IsLogged (choice : Choice) (first : Option Frame) (p : Frame) (carried : Carried)
+    (logged : Logged) : Type 0 where
+  own : Belongs choice first p carried → logged ≡ As carried → IsLogged choice first p carried logged
+  mixed : (sender : ℕ) → choice ≡ OneOrigin → ¬ Belongs choice first p carried →
+      sender_of carried ≡ Some sender → logged ≡ Mixed sender →
+      IsLogged choice first p carried logged
+  other : (name vlans : List ℕ) → choice ≡ Of name vlans → ¬ Belongs choice first p carried →
+      logged ≡ As Others → IsLogged choice first p carried logged
 
 -- the first packet whose sender is known, behind one more
 abbrev pub first_with : Option Frame → Frame → Carried → Option Frame
@@ -101,7 +105,8 @@ first_with None p carried = if is_some (sender_of carried) then Some p else None
 abbrev pub AreLogged : Choice → Option Frame → List Carrier → Type 0
 AreLogged choice first [] = Unit {0}
 AreLogged choice first (c ∷ carriers) =
-    IsLogged choice first c × AreLogged choice (first_with first c.frame c.carried) carriers
+    IsLogged choice first c.frame c.carried c.logged
+    × AreLogged choice (first_with first c.frame c.carried) carriers
 
 -- the first packet whose sender is known, behind these
 abbrev pub first_behind : Option Frame → List Carrier → Option Frame

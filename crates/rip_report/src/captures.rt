@@ -6,17 +6,19 @@ mod ending;
 mod lines;
 mod log;
 mod logged;
+mod manner;
 mod packets;
 mod part;
 mod selection;
 mod tally;
+mod times;
 
 ghost use Rattle.std.specs.Prelude.{◌≡◌, ◌≢◌, ◌⊎◌, ◌+◌, ◌^◌, ◌<◌, ◌≤◌, ◌++◌, ◌∷◌, [], ℕ, List, Some, None, Err, Ok, IfErr, IfOk, length, true};
 ghost use Rattle.rip_capture.specs.NextCall.{Stands, refusal_of, source_of};
 ghost use Rattle.rip_capture.specs.Origins.{origin_in};
 ghost use Rattle.rip_report.specs.Selections.{part_of};
 ghost use Rattle.rip_report.specs.Finished.{EndsWith};
-ghost use Rattle.rip_report.specs.CaptureLogs.{AddsFile, AddsUnread, File, GoesOn, IsLogOf, LogOf, SaysFiles, answer_so_far, authentication_of, status_of, worse};
+ghost use Rattle.rip_report.specs.CaptureLogs.{AddsFile, AddsUnread, File, GoesOn, IsLogOf, LogOf, SaysFiles, answer_so_far, manner_of, status_of, worse};
 ghost use Rattle.rip_log.specs.declared.limits.TheConstants.{MOST_LINES};
 ghost use Rattle.rip_report.specs.CapturePackets.{ClosesFile};
 ghost use Rattle.rip_log.specs.Taken.{Took};
@@ -26,7 +28,8 @@ ghost use Rattle.rip_report.specs.Given.{IsGiven};
 ghost use Rattle.rip_report.specs.Sent.{sink_state};
 ghost use Rattle.rip_report.specs.Statuses.{fault_line_of};
 ghost use Rattle.rip_report.specs.Written.{line};
-ghost use Rattle.rip_report.specs.declared.captures.authentication.Authentication.{Authentication};
+ghost use Rattle.rip_report.specs.declared.captures.manner.Manner.{Manner};
+ghost use Rattle.rip_report.specs.LineTimes.{FitsSpan};
 ghost use Rattle.rip_report.specs.declared.captures.log.CaptureLog.{CaptureLog};
 ghost use Rattle.rip_report.specs.declared.captures.tally.Tally.{Tally};
 ghost use Rattle.rip_report.specs.declared.status.Status.{Status};
@@ -35,6 +38,7 @@ pub use crate::captures::authentication::Authentication;
 use crate::captures::ending::Ending;
 use crate::captures::lines::{push_comment, push_file_refusal_line};
 pub use crate::captures::log::CaptureLog;
+pub use crate::captures::manner::Manner;
 use crate::captures::packets::log_packets;
 pub use crate::captures::part::{FilePart, Selection};
 use crate::captures::tally::Tally;
@@ -66,16 +70,17 @@ fn close_whole<K: Sink>(
 ) -> (K, Result<Status, RunError>)
     requires later { log.old.lines ≤ tally.lines }
     requires room { tally.lines < MOST_LINES }
+    requires span { FitsSpan tally.span }
     ensures closes { ClosesFile out.start (sink_state K.taken K.broken result.0) log.old log.new
         link.now out.text (Ending.Whole tally) result.1 }
-    ensures authentication { authentication_of log.new ≡ authentication_of log.old }
+    ensures manner { manner_of log.new ≡ manner_of log.old }
 {
     let number = log.files + 1;
-    push_comment(&mut out, number, link, &tally.counts);
+    push_comment(&mut out, number, link, &tally);
     let (sink, answer) = out.finish_with(Ok(tally.counts.status()));
     if let Ok(status) = answer {
         *log = CaptureLog {
-            authentication: log.authentication,
+            manner: log.manner,
             files: number,
             lines: tally.lines + 1,
             status: worse(log.status, status),
@@ -93,10 +98,11 @@ fn close_file<K: Sink>(
 ) -> (K, Result<Status, RunError>)
     requires whole { (tally : Tally) → ending ≡ Ending.Whole tally →
         (log.old.lines ≤ tally.lines) × (tally.lines < MOST_LINES) }
+    requires span { (tally : Tally) → ending ≡ Ending.Whole tally → FitsSpan tally.span }
     requires unwritten { ending ≡ Ending.Unwritten → out.failed ≡ true }
     ensures closes { ClosesFile out.start (sink_state K.taken K.broken result.0) log.old log.new
         link.now out.text ending result.1 }
-    ensures authentication { authentication_of log.new ≡ authentication_of log.old }
+    ensures manner { manner_of log.new ≡ manner_of log.old }
 {
     match ending {
         Ending::Whole(tally) => close_whole(log, link, tally, out),
@@ -125,9 +131,9 @@ pub fn log_failure<K: Sink>(error: RunError, out: K) -> (K, Result<Status, RunEr
     ensures goes_on { (log : CaptureLog) (files : List File) (text : List ℕ) (file : File) →
         IsLogOf log files text → result.1 ≢ Err RunError.Write → (part : List ℕ)
         × Took (K.taken out) (K.taken result.0) part
-        × LogOf (authentication_of log) (files ++ file ∷ []) (text ++ part) result.1 }
+        × LogOf (manner_of log) (files ++ file ∷ []) (text ++ part) result.1 }
     // A log with this line has a bad line.
-    ensures says { (how : Authentication) (files : List File) (text : List ℕ) (status : Status)
+    ensures says { (how : Manner) (files : List File) (text : List ℕ) (status : Status)
         (file : File) → SaysFiles how files text (Ok status) →
         result.1 ≢ Err RunError.Write → (part : List ℕ)
         × Took (K.taken out) (K.taken result.0) part
@@ -178,7 +184,7 @@ pub fn run_log<R: Source, K: Sink>(
     // Where the source failed, no packet is left out that it gave whole.
     ensures unread { (bytes : List ℕ) → R.given result.0 ≡ R.given file ++ bytes →
         result.2 ≡ Err RunError.Read →
-        AddsUnread K.taken out result.1 (authentication_of log.old) (part_of part.now) bytes }
+        AddsUnread K.taken out result.1 (manner_of log.old) (part_of part.now) bytes }
     // Where there is no memory, the file comes back as it was.
     ensures untouched { result.2 ≡ Err RunError.Memory → result.0 ≡ file }
     // Behind a log of files that are captures it has the log of one more, or one that ends with it.
@@ -192,14 +198,14 @@ pub fn run_log<R: Source, K: Sink>(
     // one too, or has a bad line.
     ensures says { (bytes : List ℕ) → IsGiven R.given R.at_end file result.0 bytes →
         (files : List File) (text : List ℕ) →
-        SaysFiles (authentication_of log.old) files text (Ok (status_of log.old)) →
+        SaysFiles (manner_of log.old) files text (Ok (status_of log.old)) →
         result.2 ≢ Err RunError.Write → (more : List ℕ)
         × Took (K.taken out) (K.taken result.1) more
-        × SaysFiles (authentication_of log.old)
+        × SaysFiles (manner_of log.old)
         (files ++ record { part = part_of part.now; bytes = bytes } ∷ []) (text ++ more)
         (answer_so_far log.new result.2) }
-    // What becomes of the authentication of datagrams stays.
-    ensures authentication { authentication_of log.new ≡ authentication_of log.old }
+    // How it is written stays.
+    ensures manner { manner_of log.new ≡ manner_of log.old }
     // The bytes given are the first of those to come, where these are modelled.
     ensures went { Went R.given R.coming R.at_end file result.0 }
     ensures to_come { (bytes : List ℕ) → R.coming file ≡ Some bytes →
@@ -224,12 +230,12 @@ pub fn run_log<R: Source, K: Sink>(
         }
         Ok((mut reader, mut first)) => {
             let mut text = Out::new(out);
-            let authentication = log.authentication;
+            let manner = log.manner;
             let lines = log.lines;
             let ending = log_packets(
                 &mut reader,
                 part,
-                authentication,
+                manner,
                 lines,
                 &mut first,
                 &mut text,

@@ -1,7 +1,7 @@
 //! Laws of the definitions alone: functions that do nothing, whose contracts hold of every plan and
 //! every log.
 
-ghost use Rattle.std.specs.Prelude.{◌≡◌, ◌≢◌, ◌↔◌, ◌⊎◌, ◌+◌, ◌≤◌, ◌++◌, ℕ, Bool, true, List, Ok, Result, is_err, length, map};
+ghost use Rattle.std.specs.Prelude.{◌≡◌, ◌≢◌, ◌↔◌, ◌⊎◌, ◌+◌, ◌≤◌, ◌++◌, ℕ, Bool, true, false, List, Ok, Result, is_err, length, map};
 ghost use Rattle.std.specs.List.{AllByRecursion};
 ghost use Rattle.rip_log.specs.Logs.{Numbered};
 ghost use Rattle.rip_log.specs.LogText.{EndsLine, LogText};
@@ -10,6 +10,7 @@ ghost use Rattle.rip_report.specs.Selections.{Carrier, Part};
 ghost use Rattle.rip_report.specs.CaptureText.{counts_of as counts_of_packets};
 ghost use Rattle.rip_report.specs.CaptureLogs.{File, FileText, HasDatagrams, HaveDatagrams, IsFile, LogOf};
 ghost use Rattle.rip_report.specs.declared.captures.authentication.Authentication.{Authentication};
+ghost use Rattle.rip_report.specs.declared.captures.manner.Manner.{Manner};
 ghost use Rattle.rip_report.specs.declared.status.RunError.{RunError};
 ghost use Rattle.rip_report.specs.declared.status.Status.{Status};
 ghost use Rattle.rip_plan.specs.Network.{Network};
@@ -75,25 +76,27 @@ pub fn counted_packets()
         ≡ count_of is_datagram carriers + count_of is_cut carriers + count_of is_fragment carriers
         + count_of is_malformed carriers + count_of is_long carriers + mixed_count carriers
         + count_of is_elsewhere carriers + count_of is_other carriers }
-    ensures passwords { (how : Authentication) (carriers : List Carrier) →
+    ensures passwords { (how : Manner) (carriers : List Carrier) →
         (counts_of_packets how carriers).passwords
         ≤ (counts_of_packets how carriers).datagrams }
-    ensures authentication { (how : Authentication) (carriers : List Carrier) →
+    ensures authentication { (how : Manner) (carriers : List Carrier) →
         (counts_of_packets how carriers).without_authentication
         ≤ (counts_of_packets how carriers).datagrams }
     // None is taken off where that was not asked for.
-    ensures as_sent { (carriers : List Carrier) →
-        (counts_of_packets Authentication.AsSent carriers).without_authentication ≡ 0 }
+    ensures as_sent { (how : Manner) (carriers : List Carrier) →
+        how.authentication ≡ Authentication.AsSent →
+        (counts_of_packets how carriers).without_authentication ≡ 0 }
 {}
 
 /// What a log has of a capture file ends a line; and if no line of it is bad, the file is a capture,
 /// all its datagrams to 224.0.0.9 are there whole, and they are the records of these lines.
 pub fn logged_files()
-    ensures ends { (how : Authentication) (number lines after : ℕ) (part : Part) (bytes text : List ℕ)
+    ensures ends { (how : Manner) (number lines after : ℕ) (part : Part) (bytes text : List ℕ)
         (answer : Result Status RunError) →
         FileText how number lines part bytes text after answer → EndsLine text }
-    ensures says { (how : Authentication) (number lines after : ℕ) (file : File) (text : List ℕ)
-        (answer : Result Status RunError) (records : List Numbered) → IsFile file →
+    ensures says { (how : Manner) (number lines after : ℕ) (file : File) (text : List ℕ)
+        (answer : Result Status RunError) (records : List Numbered) → how.times ≡ false →
+        IsFile file →
         FileText how number lines file.part file.bytes text after answer → LogText text records →
         (answer ≡ Ok Status.Done) × HasDatagrams how file (map (λ r. r.capture) records) }
 {
@@ -106,7 +109,7 @@ pub fn logged_files()
 
 /// A log that a file has ended is the log of its files and of any more.
 pub fn stopped_logs()
-    ensures { (how : Authentication) (files more : List File) (text : List ℕ)
+    ensures { (how : Manner) (files more : List File) (text : List ℕ)
         (answer : Result Status RunError) → LogOf how files text answer →
         (answer ≡ Ok Status.Refused) ⊎ (is_err answer ≡ true) →
         LogOf how (files ++ more) text answer }
@@ -117,14 +120,15 @@ pub fn stopped_logs()
 /// with zeros for a password, and without their authentication where that was asked for and it
 /// fits.
 pub fn captured_logs()
-    ensures says { (how : Authentication) (files : List File) (text : List ℕ)
-        (answer : Result Status RunError) (records : List Numbered) → LogOf how files text answer →
+    ensures says { (how : Manner) (files : List File) (text : List ℕ)
+        (answer : Result Status RunError) (records : List Numbered) → how.times ≡ false →
+        LogOf how files text answer →
         AllByRecursion IsFile files → LogText text records →
         (answer ≡ Ok Status.Done) × HaveDatagrams how files (map (λ r. r.capture) records) }
     // The table of such a log, as the commands take it, is the join of just these datagrams.
-    ensures joined { (how : Authentication) (files : List File) (text : List ℕ)
-        (answer : Result Status RunError) (n : Network) (s : State) → LogOf how files text answer →
-        AllByRecursion IsFile files → IsTable n text s → (records : List Numbered)
+    ensures joined { (how : Manner) (files : List File) (text : List ℕ)
+        (answer : Result Status RunError) (n : Network) (s : State) → how.times ≡ false →
+        LogOf how files text answer → AllByRecursion IsFile files → IsTable n text s → (records : List Numbered)
         × HaveDatagrams how files (map (λ r. r.capture) records)
         × IsJoined n (new_state n) records s }
 {

@@ -142,6 +142,13 @@ impl<K: Sink> Out<K> {
         self.push("\n");
     }
 
+    /// Sends what has not gone out yet, so that it need not wait for more.
+    pub(crate) fn send(&mut self)
+        ensures { Adds self.old self.new [] }
+    {
+        self.page.clear(&mut self.sink, &mut self.wrote);
+    }
+
     /// Whether a write has failed, so that a loop may stop early.
     pub(crate) fn has_failed(&self) -> bool
         ensures failed { result ≡ self.now.failed }

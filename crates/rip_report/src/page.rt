@@ -77,7 +77,7 @@ impl Page {
     }
 
     /// Sends what the page holds, unless a write before has failed: then it is lost.
-    fn clear<K: Sink>(&mut self, out: &mut K, wrote: &mut Result<(), Failed>)
+    pub(crate) fn clear<K: Sink>(&mut self, out: &mut K, wrote: &mut Result<(), Failed>)
         ensures writes { (start : SinkState) (text : List ℕ) →
             Writes start (sink_state K.taken K.broken out.old) wrote.old text (held self.old) →
             Writes start (sink_state K.taken K.broken out.new) wrote.new text [] }

@@ -6,8 +6,8 @@ use Rattle.std.proofs.lemmas.List.{length-append}
 use Rattle.std.proofs.lemmas.Option.{none-some}
 use Rattle.rip_log.specs.Taken.{Taken, Took}
 use Rattle.rip_log.proofs.TakenLemmas.{Took-both}
-use Rattle.rip_report.specs.CaptureLogs.{File, GoesOn, IsLogOf, LogOf, authentication_of}
-use Rattle.rip_report.specs.declared.captures.authentication.Authentication.{Authentication}
+use Rattle.rip_report.specs.CaptureLogs.{File, GoesOn, IsLogOf, LogOf, manner_of}
+use Rattle.rip_report.specs.declared.captures.manner.Manner.{Manner}
 use Rattle.rip_report.specs.declared.captures.log.CaptureLog.{CaptureLog}
 use Rattle.rip_report.specs.declared.status.RunError.{RunError}
 use Rattle.rip_report.specs.declared.status.RunError.TheVariants.{Write}
@@ -79,7 +79,7 @@ goes-on log files text (Ok Unsettled) e goes = goes
 goes-on log files text (Ok Unclear) e goes = goes
 goes-on log files text (Err f) e goes = absurd (cc e)
 
-pub ends : (log : CaptureLog) (files : List File) (text : List ℕ) (answer : Result Status RunError) → ends_log answer ≡ true → GoesOn log files text answer → LogOf (authentication_of log) files text answer
+pub ends : (log : CaptureLog) (files : List File) (text : List ℕ) (answer : Result Status RunError) → ends_log answer ≡ true → GoesOn log files text answer → LogOf (manner_of log) files text answer
     × ((answer ≡ Ok Refused) ⊎ (is_err answer ≡ true))
 ends log files text (Ok Refused) e goes = (goes, inl refl)
 ends log files text (Ok Done) e goes = absurd (cc e)
@@ -98,9 +98,9 @@ no-failure (Ok status) e = λ f. cc f
 no-failure (Err f) e = absurd (cc e)
 
 -- a log that failed
-pub failed-goes : (log : CaptureLog) (files : List File) (text : List ℕ) (answer : Result Status RunError) (error : RunError) → answer ≡ Err error → LogOf (authentication_of log) files text answer →
+pub failed-goes : (log : CaptureLog) (files : List File) (text : List ℕ) (answer : Result Status RunError) (error : RunError) → answer ≡ Err error → LogOf (manner_of log) files text answer →
     GoesOn log files text answer
-failed-goes log files text answer error e log_of = subst (GoesOn log files text) (sym e) (subst (LogOf (authentication_of log) files text) e log_of)
+failed-goes log files text answer error e log_of = subst (GoesOn log files text) (sym e) (subst (LogOf (manner_of log) files text) e log_of)
 
 pub never-ok : (P : Type 0) (answer : Result Status RunError) (error : RunError) → (answer ≢ Err Write → answer ≡ Err error) → IfOk answer (λ _. P)
 never-ok P (Ok status) error fails = absurd (let clash : ◌≡◌ {A = Result Status RunError} (Ok status) (Err error) = fails (λ e. cc e) in cc clash)
@@ -152,13 +152,13 @@ all-files a d log i answer files size e next =
     (next.text, next.took, subst (λ l. IsLogOf log l next.text) (sym whole) (goes-on log (p.front ++ p.file ∷ []) next.text answer e next.goes))
 
 -- files at one of which a log ends
-pub ended-files : (a d : Taken) (log : CaptureLog) (how : Authentication) (i : ℕ) (answer : Result Status RunError) (files : List File) → ends_log answer ≡ true → authentication_of log ≡ how
-    → ((how : Authentication) (files more : List File) (text : List ℕ) (answer : Result Status RunError) → LogOf how files text answer → (answer ≡ Ok Refused) ⊎ (is_err answer ≡ true)
+pub ended-files : (a d : Taken) (log : CaptureLog) (how : Manner) (i : ℕ) (answer : Result Status RunError) (files : List File) → ends_log answer ≡ true → manner_of log ≡ how
+    → ((how : Manner) (files more : List File) (text : List ℕ) (answer : Result Status RunError) → LogOf how files text answer → (answer ≡ Ok Refused) ⊎ (is_err answer ≡ true)
     → LogOf how (files ++ more) text answer)
     → NextFile a d log i answer files → (text : List ℕ) × Took a d text × LogOf how files text answer
 ended-files a d log how i answer files e same stopped next =
     let p = next.part in
     let (log_of, stops) = ends log (p.front ++ p.file ∷ []) next.text answer e next.goes in
-    let longer = stopped (authentication_of log) (p.front ++ p.file ∷ []) p.after next.text answer log_of stops in
+    let longer = stopped (manner_of log) (p.front ++ p.file ∷ []) p.after next.text answer log_of stops in
     let whole : (p.front ++ p.file ∷ []) ++ p.after ≡ files = append_assoc p.front (p.file ∷ []) p.after ∙ sym p.whole in
-    (next.text, next.took, subst (λ h. LogOf h files next.text answer) same (subst (λ l. LogOf (authentication_of log) l next.text answer) whole longer))
+    (next.text, next.took, subst (λ h. LogOf h files next.text answer) same (subst (λ l. LogOf (manner_of log) l next.text answer) whole longer))

@@ -1,12 +1,12 @@
 //! The files of `log`: opened one after the other, and added to a log.
 
-ghost use Rattle.std.specs.Prelude.{◌≡◌, ◌≢◌, ◌+◌, ◌∷◌, ◌++◌, ◌<◌, [], ℕ, List, Err, true, IfNone, IfOk, IfSome, IsSome, Ok, length, map, vec_capacity, vec_len};
+ghost use Rattle.std.specs.Prelude.{◌≡◌, ◌≢◌, ◌+◌, ◌∷◌, ◌++◌, ◌<◌, [], ℕ, List, Err, true, false, IfNone, IfOk, IfSome, IsSome, Ok, length, map, vec_capacity, vec_len};
 ghost use Rattle.std.specs.List.{AllByRecursion};
 ghost use Rattle.rip_wire.specs.Name.{IsName};
 ghost use Rattle.rip_log.specs.LogText.{LogText};
 ghost use Rattle.rip_log.specs.Logs.{Numbered};
 ghost use Rattle.rip_log.specs.Taken.{Took};
-ghost use Rattle.rip_report.specs.CaptureLogs.{File, GoesOn, HaveDatagrams, IsFile, IsLogOf, LogOf, authentication_of};
+ghost use Rattle.rip_report.specs.CaptureLogs.{File, GoesOn, HaveDatagrams, IsFile, IsLogOf, LogOf, manner_of};
 ghost use Rattle.rip_report.specs.declared.status.RunError.{RunError};
 ghost use Rattle.rip_report.specs.declared.status.Status.{Status};
 ghost use Rattle.ripaudit.specs.CaptureFiles.{AreFilesOf, ClosedSource, HasGiven, HasGivenAt, HasGivenIf, NamesFile, ends_log};
@@ -17,7 +17,7 @@ use crate::command_line::{read_failure, told_input};
 use crate::words::{CaptureWord, capture_word};
 use rip_log::{FromRead, Sink};
 use rip_report::laws::{captured_logs, stopped_logs};
-use rip_report::{Authentication, CaptureLog, FilePart, RunError, Status, log_failure, run_log};
+use rip_report::{CaptureLog, FilePart, Manner, RunError, Status, log_failure, run_log};
 use std::alloc::Global;
 use std::fs;
 use std::io::{IsTerminal, Read};
@@ -43,7 +43,7 @@ fn log_reader<L: Read + Drop, K: Sink>(
         × GoesOn log.new (files ++ record { part = part_of part.now; bytes = bytes } ∷ [])
         (text ++ more) result.2 }
     ensures write { result.2 ≡ Err RunError.Write → K.broken result.1 ≡ true }
-    ensures authentication { authentication_of log.new ≡ authentication_of log.old }
+    ensures manner { manner_of log.new ≡ manner_of log.old }
 {
     let (source, out, answer) = run_log(alloc, log, part, FromRead::new(reader), out);
     (source.close(), out, answer)
@@ -67,7 +67,7 @@ where
         (text ++ more) result.2 }
     ensures opened { IfOk result.2 (λ _. IsSome result.0) }
     ensures write { result.2 ≡ Err RunError.Write → K.broken result.1 ≡ true }
-    ensures authentication { authentication_of log.new ≡ authentication_of log.old }
+    ensures manner { manner_of log.new ≡ manner_of log.old }
 {
     let alloc = rt.alloc();
     let part = word.part();
@@ -121,7 +121,7 @@ where
     ensures read { IfOk result.1
         (λ _. length sources.new.items ≡ length sources.old.items + 1) }
     ensures write { result.1 ≡ Err RunError.Write → K.broken result.0 ≡ true }
-    ensures authentication { authentication_of log.new ≡ authentication_of log.old }
+    ensures manner { manner_of log.new ≡ manner_of log.old }
 {
     let Some(word) = capture_word(word) else {
         unreachable!();
@@ -145,7 +145,7 @@ fn ends_log(answer: &Result<Status, RunError>) -> bool
 /// The sources of those that were opened come back, closed.
 pub(crate) fn log_files<R: Files + AllocGlobal + Input + Eprint, K: Sink>(
     rt: &R,
-    authentication: Authentication,
+    manner: Manner,
     words: &[&str],
     out: K,
 ) -> (Vec<Closed>, K, Result<Status, RunError>)
@@ -157,20 +157,21 @@ where
         AreFilesOf (map (λ w. w.now) words.now) result.0.items files →
         result.2 ≢ Err RunError.Write → (text : List ℕ)
         × Took (K.taken out) (K.taken result.1) text
-        × LogOf authentication files text result.2 }
-    // If no line of it is bad, each file is a capture, and it has just their datagrams.
-    ensures says { (files : List File) →
+        × LogOf manner files text result.2 }
+    // If it is without times, and no line of it is bad, each file is a capture, and it has just their
+    // datagrams.
+    ensures says { manner.times ≡ false → (files : List File) →
         AreFilesOf (map (λ w. w.now) words.now) result.0.items files →
         AllByRecursion IsFile files → result.2 ≢ Err RunError.Write → (text : List ℕ)
         × Took (K.taken out) (K.taken result.1) text
         × ((records : List Numbered) → LogText text records → (result.2 ≡ Ok Status.Done)
-        × HaveDatagrams authentication files (map (λ r. r.capture) records)) }
+        × HaveDatagrams manner files (map (λ r. r.capture) records)) }
     // Write only where the sink has failed.
     ensures write { result.2 ≡ Err RunError.Write → K.broken result.1 ≡ true }
 {
     captured_logs();
     stopped_logs();
-    let mut log = CaptureLog::new(authentication);
+    let mut log = CaptureLog::new(manner);
     let mut sources = Vec::new(rt.alloc());
     let mut out = out;
     for i in 0..words.len() {

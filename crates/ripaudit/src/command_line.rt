@@ -5,14 +5,14 @@ ghost use Rattle.rip_report.specs.declared.status.RunError.{RunError};
 
 use crate::capture_files::log_files;
 use crate::commands::{
-    PlanCommand, ReadCommand, authentication, plan_command, read_command, read_plan, run_anyway,
+    PlanCommand, ReadCommand, manner, plan_command, read_command, read_plan, run_anyway,
     run_on_log, run_on_plan,
 };
 use crate::words::{capture_word, first_bad_word};
 use clap::error::ErrorKind;
 use clap::{Arg, ArgAction, ArgMatches, Command, Error};
 use rip_log::{FromRead, IntoWrite};
-use rip_report::{Authentication, RunError, Status, exit_code, fault_line, run_decode};
+use rip_report::{Manner, RunError, Status, exit_code, fault_line, run_decode};
 use std::alloc::{AllocError, Global};
 use std::collections::hash_map::RandomState;
 use std::io::{IsTerminal, Read};
@@ -94,6 +94,7 @@ fn log_command<'a>(alloc: Global) -> Result<Command<'a>, AllocError> {
         WHICH is an interface, VLANs (5.103), or both with @ between; - is standard input";
     let without =
         "Print datagrams as they would be without their authentication, where it fits them";
+    let times = "Print the time of each packet in front of its line";
     Command::new(alloc, "log")
         .about("Makes a log of the RIP datagrams in capture files")
         .arg(
@@ -101,7 +102,8 @@ fn log_command<'a>(alloc: Global) -> Result<Command<'a>, AllocError> {
                 .value_name("[LINK[@WHICH]=]FILE")
                 .num_args(1..),
         )?
-        .arg(flag(alloc, "without-authentication", without))
+        .arg(flag(alloc, "without-authentication", without))?
+        .arg(flag(alloc, "times", times))
 }
 
 /// The command that reads a datagram.
@@ -281,7 +283,7 @@ fn refuse_word(rt: &impl Eprint, word: &str, number: usize) -> Result<Status, Ru
 /// Makes a log of capture files, if all words name some.
 fn run_log_command<R: Files + AllocGlobal + Input + Print + Eprint>(
     rt: &R,
-    authentication: Authentication,
+    manner: Manner,
     words: &[&str],
 ) -> Result<Status, RunError>
 where
@@ -290,7 +292,7 @@ where
     match first_bad_word(words) {
         None => {
             let out = IntoWrite::new(io::writer(rt));
-            let (_, _, outcome) = log_files(rt, authentication, words, out);
+            let (_, _, outcome) = log_files(rt, manner, words, out);
             outcome
         }
         Some(at) => refuse_word(rt, words[at], at + 1),
@@ -311,7 +313,10 @@ where
         return Some(run_decode(hex, IntoWrite::new(io::writer(rt))).1);
     }
     if word == "log" {
-        let kept = authentication(words.get_flag("without-authentication"));
+        let kept = manner(
+            words.get_flag("without-authentication"),
+            words.get_flag("times"),
+        );
         return Some(run_log_command(rt, kept, words.get_strs("FILE")?));
     }
     let path = words.get_str("PLAN")?;

@@ -19,7 +19,7 @@ use rip_check::laws::one_set_of_tables;
 use rip_log::{Failed, Sink, Source};
 use rip_plan::MOST_PLAN_BYTES;
 use rip_report::{
-    Authentication, RunError, Status, run_audit, run_expect, run_explain, run_heard, run_plan,
+    Authentication, Manner, RunError, Status, run_audit, run_expect, run_explain, run_heard, run_plan,
     run_routes, run_routes_anyway, run_table, run_table_anyway, run_whatif,
 };
 use std::alloc::Global;
@@ -122,15 +122,22 @@ pub(crate) fn read_command(word: &str, all: bool, anyway: bool) -> Option<ReadCo
     })
 }
 
-/// What becomes of the authentication of datagrams, which the flag takes off.
-pub(crate) fn authentication(without: bool) -> Authentication
-    ensures removed { without ≡ true → result ≡ Authentication.Removed }
-    ensures as_sent { without ≡ false → result ≡ Authentication.AsSent }
+/// How a log is written, by its flags: without authentication where that fits, and with times.
+pub(crate) fn manner(without_authentication: bool, times: bool) -> Manner
+    ensures removed { without_authentication ≡ true →
+        result.authentication ≡ Authentication.Removed }
+    ensures as_sent { without_authentication ≡ false →
+        result.authentication ≡ Authentication.AsSent }
+    ensures times { result.times ≡ times }
 {
-    if without {
+    let authentication = if without_authentication {
         Authentication::Removed
     } else {
         Authentication::AsSent
+    };
+    Manner {
+        authentication,
+        times,
     }
 }
 

@@ -2,7 +2,7 @@
 
 ghost use Rattle.std.specs.Prelude.{◌≡◌, []};
 ghost use Rattle.rip_report.specs.CaptureText.{HasRoom, counted, counted_status, counts_of};
-ghost use Rattle.rip_report.specs.declared.captures.authentication.Authentication.{Authentication};
+ghost use Rattle.rip_report.specs.declared.captures.manner.Manner.{Manner};
 
 use crate::captures::authentication::Omitted;
 use crate::captures::logged::Logged;
@@ -33,7 +33,7 @@ pub(crate) struct PacketCounts {
 impl PacketCounts {
     /// No packets.
     pub(crate) fn new() -> PacketCounts
-        ensures { (how : Authentication) → result ≡ counts_of how [] }
+        ensures { (how : Manner) → result ≡ counts_of how [] }
     {
         PacketCounts {
             packets: 0,

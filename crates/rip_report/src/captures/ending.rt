@@ -10,6 +10,8 @@ pub(crate) enum RefusalCode {
     Capture(CaptureCode),
     /// The log would have too many lines.
     TooManyLines,
+    /// A packet that has a line has no time that can be written.
+    Time,
 }
 
 /// How the reading of a file ends.

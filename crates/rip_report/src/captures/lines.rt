@@ -1,12 +1,14 @@
 //! The lines of a log of capture files.
 
-ghost use Rattle.std.specs.Prelude.{◌≡◌, ◌+◌, ◌*◌, ◌≤◌, ◌++◌, codes, length, take};
+ghost use Rattle.std.specs.Prelude.{◌≡◌, ◌+◌, ◌*◌, ◌≤◌, ◌++◌, Option, codes, length, take};
 ghost use Rattle.hex.specs.Hex.{encode_lower};
 ghost use Rattle.rip_capture.specs.Carries.{LiesWithin};
 ghost use Rattle.rip_capture.specs.Passwords.{has_password, without_password};
 ghost use Rattle.rip_log.specs.Spans.{IsWithin, slice_of};
 ghost use Rattle.rip_capture.specs.declared.limits.TheConstants.{MOST_PAYLOAD};
 ghost use Rattle.rip_report.specs.CaptureText.{carried_line, comment_front, comment_line, file_part, file_refusal_line, LogLiesWithin, has_line, lacking_part, logged_line, omitted_of, other_part, refusal_code_text, sender_part};
+ghost use Rattle.rip_log.specs.declared.time.date_time.DateTime.{DateTime};
+ghost use Rattle.rip_report.specs.LineTimes.{AreShown, FitsSpan};
 ghost use Rattle.rip_report.specs.LoggedDatagrams.{logged_datagram, omitted_from};
 ghost use Rattle.rip_report.specs.Outs.{Adds};
 ghost use Rattle.rip_report.specs.Written.{line};
@@ -16,6 +18,8 @@ use crate::captures::authentication::{Authentication, Omitted};
 use crate::captures::counts::PacketCounts;
 use crate::captures::ending::RefusalCode;
 use crate::captures::logged::Logged;
+use crate::captures::tally::Tally;
+use crate::captures::times::push_span;
 use crate::left_out::push_count;
 use crate::output::Out;
 use hex::encode_to_slice;
@@ -265,13 +269,16 @@ pub(crate) fn push_comment<K: Sink>(
     out: &mut Out<K>,
     number: u32,
     link: &str,
-    counts: &PacketCounts,
+    tally: &Tally,
 )
-    ensures { Adds out.old out.new (comment_line number link.now counts.now) }
+    requires { FitsSpan tally.now.span }
+    ensures { (span : Option (DateTime × DateTime)) → AreShown tally.now.span span →
+        Adds out.old out.new (comment_line number link.now tally.now.counts span) }
 {
-    push_comment_front(out, number, link, counts);
-    push_lacking(out, counts);
-    push_others(out, counts);
+    push_comment_front(out, number, link, &tally.counts);
+    push_lacking(out, &tally.counts);
+    push_others(out, &tally.counts);
+    push_span(out, tally.span);
     out.end();
 }
 
@@ -290,6 +297,7 @@ fn code_text(code: RefusalCode) -> &'static str
         RefusalCode::Capture(CaptureCode::OldPacket) => "7 OldPacket",
         RefusalCode::Capture(CaptureCode::Read) => "Read",
         RefusalCode::TooManyLines => "8 TooManyLines",
+        RefusalCode::Time => "9 Time",
     }
 }
 

@@ -3,16 +3,16 @@
 ghost use Rattle.std.specs.Prelude.{◌≡◌, ◌≤◌, [], Ok};
 ghost use Rattle.rip_log.specs.declared.limits.TheConstants.{MOST_LINES};
 
-use crate::captures::authentication::Authentication;
+use crate::captures::manner::Manner;
 use crate::status::Status;
 use rip_log::laws::log_texts;
 
-/// A log of capture files, as far as it was written: what becomes of the authentication of
-/// datagrams, how many files and lines it has, and its status, Unclear where a datagram is not
+/// A log of capture files, as far as it was written: how it is written, how many files and lines it
+/// has, and its status, Unclear where a datagram is not
 /// there whole.
 #[derive(Clone, Copy, Debug)]
 pub struct CaptureLog {
-    pub(super) authentication: Authentication,
+    pub(super) manner: Manner,
     pub(super) files: u32,
     pub(super) lines: u32,
     pub(super) status: Status,
@@ -21,17 +21,17 @@ pub struct CaptureLog {
 }
 
 impl CaptureLog {
-    ghost use Rattle.rip_report.specs.CaptureLogs.{IsLogOf, SaysFiles, authentication_of, status_of};
+    ghost use Rattle.rip_report.specs.CaptureLogs.{IsLogOf, SaysFiles, manner_of, status_of};
 
     /// A log of no file.
-    pub fn new(authentication: Authentication) -> CaptureLog
+    pub fn new(manner: Manner) -> CaptureLog
         ensures empty { IsLogOf result [] [] }
-        ensures says { SaysFiles authentication [] [] (Ok (status_of result)) }
-        ensures authentication { authentication_of result ≡ authentication }
+        ensures says { SaysFiles manner [] [] (Ok (status_of result)) }
+        ensures manner { manner_of result ≡ manner }
     {
         log_texts();
         CaptureLog {
-            authentication,
+            manner,
             files: 0,
             lines: 0,
             status: Status::Done,

@@ -8,48 +8,65 @@ ghost use Rattle.rip_capture.specs.declared.limits.TheConstants.{MOST_CAPTURED};
 ghost use Rattle.rip_log.specs.declared.limits.TheConstants.{MOST_LINES};
 ghost use Rattle.rip_report.specs.CapturePackets.{Keeps, LogsPacket, LogsPackets, ended_at, ended_by};
 ghost use Rattle.rip_report.specs.CaptureText.{HasRoom};
+ghost use Rattle.rip_report.specs.Outs.{Adds};
 ghost use Rattle.rip_report.specs.Selections.{choice_of, part_of};
 
-use crate::captures::authentication::Authentication;
 use crate::captures::counts::PacketCounts;
 use crate::captures::ending::{Ending, RefusalCode};
 use crate::captures::lines::{has_line, push_line};
+use crate::captures::manner::Manner;
 use crate::captures::part::FilePart;
 use crate::captures::selection::logged;
 use crate::captures::tally::Tally;
+use crate::captures::times::{is_timed, line_time, noted_span, push_time};
 use crate::output::Out;
 use rip_capture::laws::{long_captures, read_captures, short_packets};
 use rip_capture::{CaptureCode, CaptureError, CaptureReader, FirstOrigin, Packet, read_frame};
 use rip_log::{MOST_LINES, Sink, Source};
 
-/// Adds the line of a packet, if it has one, and counts it. False where the log has no room for the
-/// line.
+/// Adds the line of a packet, if it has one, and counts it. Time where it has none that can be
+/// written, but has to; TooManyLines where the log has no room for the line.
 fn log_packet<K: Sink>(
     packet: &Packet<'_>,
     part: &FilePart<'_>,
-    authentication: Authentication,
+    manner: Manner,
     first: &mut FirstOrigin,
     tally: &mut Tally,
     out: &mut Out<K>,
-) -> bool
+) -> Result<(), RefusalCode>
     requires room { HasRoom tally.old.counts }
     requires lines { tally.old.lines ≤ MOST_LINES }
     requires short { length packet.now.bytes.now ≤ MOST_CAPTURED }
     ensures { (seen : Option Frame) → Keeps (choice_of part.now.packets) seen (origin_in first.old) →
-        LogsPacket authentication (part_of part.now) seen (frame_of packet.now)
+        LogsPacket manner (part_of part.now) seen (frame_of packet.now)
         (origin_in first.new) tally.old tally.new out.old out.new result }
 {
     let carried = read_frame(packet.link_type, packet.bytes);
     let logged = logged(&part.packets, first, packet, carried);
+    let time = match line_time(packet, is_timed(manner, logged)) {
+        Ok(time) => time,
+        Err(code) => return Err(code),
+    };
     if has_line(logged) {
         if tally.lines >= MOST_LINES {
-            return false;
+            return Err(RefusalCode::TooManyLines);
         }
         tally.lines += 1;
     }
-    let omitted = push_line(out, part.link, authentication, packet.bytes, &logged);
+    push_time(out, time);
+    let omitted = push_line(out, part.link, manner.authentication, packet.bytes, &logged);
+    tally.span = noted_span(tally.span, time);
     tally.counts.add(logged, omitted);
-    true
+    Ok(())
+}
+
+/// Sends what was added to a log, where the next packet may keep it waiting.
+fn send_before_wait<R: Source, K: Sink>(reader: &CaptureReader<R>, out: &mut Out<K>)
+    ensures { Adds out.old out.new [] }
+{
+    if !reader.is_ready() {
+        out.send();
+    }
 }
 
 /// How the reading of a file ends at this error.
@@ -82,7 +99,7 @@ fn ended_at(tally: Tally, at: u64) -> Ending
 pub(crate) fn log_packets<R: Source, K: Sink>(
     reader: &mut CaptureReader<R>,
     part: &FilePart<'_>,
-    authentication: Authentication,
+    manner: Manner,
     lines: u32,
     first: &mut FirstOrigin,
     out: &mut Out<K>,
@@ -92,7 +109,7 @@ pub(crate) fn log_packets<R: Source, K: Sink>(
     requires lines { lines ≤ MOST_LINES }
     requires first { origin_in first.old ≡ None }
     ensures { LogsPackets K.taken K.broken R.given R.coming R.broken R.at_end
-        authentication (part_of part.now) lines reader.old reader.new out.old out.new result }
+        manner (part_of part.now) lines reader.old reader.new out.old out.new result }
 {
     long_captures();
     read_captures();
@@ -100,14 +117,19 @@ pub(crate) fn log_packets<R: Source, K: Sink>(
     let mut tally = Tally {
         counts: PacketCounts::new(),
         lines,
+        span: None,
     };
     'packets: while tally.counts.packets < u64::MAX {
+        send_before_wait(reader, out);
+        if out.has_failed() {
+            return Ending::Unwritten;
+        }
         match reader.next() {
             Ok(Some(packet)) => {
                 let at = packet.at;
-                if !log_packet(&packet, part, authentication, first, &mut tally, out) {
-                    let code = RefusalCode::TooManyLines;
-                    return Ending::Refused { code, at };
+                match log_packet(&packet, part, manner, first, &mut tally, out) {
+                    Ok(()) => {}
+                    Err(code) => return Ending::Refused { code, at },
                 }
                 if out.has_failed() {
                     return Ending::Unwritten;

@@ -78,8 +78,7 @@ pub(crate) fn logged(
     requires { length packet.now.bytes.now ≤ MOST_CAPTURED }
     ensures logged { (seen : Option Frame) →
         Keeps (choice_of packets.now) seen (origin_in first.old) →
-        IsLogged (choice_of packets.now) seen
-        (record { frame = frame_of packet.now; carried = carried; logged = result })
+        IsLogged (choice_of packets.now) seen (frame_of packet.now) carried result
         × Keeps (choice_of packets.now) (first_with seen (frame_of packet.now) carried)
         (origin_in first.new) }
     ensures lies { (size : ℕ) → LiesWithin size carried → LogLiesWithin size result }

@@ -24,10 +24,10 @@ returns-then-seen-vlans c =
     let inv = c.tags.invariant in
     let frame = c.args.frame.now in
     let vlans = c.args.vlans.now in
-    let vlan = c.u16_at-vlan.result % 4096 in
+    let vlan = c.vlan_at-vlan.result in
     let is = ap is_tag (sym c.u16_at.ensures) ∙ sym c.is_tag.ensures ∙ c.tags-test.true in
     let more = some-vlans frame (c.tags.from + 2) (c.tags.from + 4) in
-    let number : number_at 2 c.tags.from frame % 4096 ≡ vlan = ap (λ n. n % 4096) (sym c.u16_at-vlan.ensures) in
+    let number : number_at 2 c.tags.from frame % 4096 ≡ vlan = sym c.vlan_at-vlan.ensures in
     let has = inv.seen (vlan ∷ more.0) (tag c.tags.at c.tags.from (vlan ∷ more.0) more.0 is (omega (arith, c.if-frame-from-lt-TAG.false, inv.within)) more.1
     (sym (some-vlan vlan more.0 c.if-vlan-ne0.true) ∙ ap (λ n. with_vlan n more.0) (sym number))) in (
       λ e. cc e,
@@ -42,10 +42,10 @@ tags-preserved c =
     let inv = c.tags.invariant in
     let frame = c.args.frame.now in
     let vlans = c.args.vlans.now in
-    let vlan = c.u16_at-vlan.result % 4096 in
+    let vlan = c.vlan_at-vlan.result in
     let is = ap is_tag (sym c.u16_at.ensures) ∙ sym c.is_tag.ensures ∙ c.tags-test.true in
     let room : c.tags.from + 4 ≤ length frame = omega (arith, c.if-frame-from-lt-TAG.false, inv.within) in
-    let number : number_at 2 c.tags.from frame % 4096 ≡ vlan = ap (λ n. n % 4096) (sym c.u16_at-vlan.ensures) in
+    let number : number_at 2 c.tags.from frame % 4096 ≡ vlan = sym c.vlan_at-vlan.ensures in
     record {
       seen = λ others h.
           let has = inv.seen (with_vlan vlan others) (tag c.tags.at c.tags.from (with_vlan vlan others) others is room h (ap (λ n. with_vlan n others) (sym number))) in

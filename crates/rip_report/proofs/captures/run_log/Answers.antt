@@ -24,11 +24,11 @@ returns-in-Ok-clause-prints g c = λ bytes is.
     let out = c.args.out in
     let text : Begins (start ++ bytes) (S.given (source_of reader)) (S.at_end (source_of reader)) =
     subst (λ (s : g.row.R.Denot). Begins (start ++ bytes) (S.given s) (S.at_end s)) c.into_source.ensures is in
-    let ends = subst (λ (s : g.row.R.Denot). EndsSo S.given S.at_end c.args.log.now.authentication part.choice
+    let ends = subst (λ (s : g.row.R.Denot). EndsSo S.given S.at_end c.args.log.now.manner part.choice
     (S.given s) c.args.log.now.lines logs.carriers reader c.log_packets-ending.new.out c.log_packets-ending.result) c.in-Ok.ensures.source logs.ends in
     adds-file S.given S.at_end start bytes reader text taken broken out c.close_file-out.result.0 c.args.log.now c.close_file-out.new.log part c.log_packets-ending.new.out
     c.early_faults.ensures c.read_captures.ensures logs.carriers logs.are logs.few c.log_packets-ending.result c.close_file-out.result.1 ends
-    (closes-behind _ _ c.new-text.result c.log_packets-ending.new.out c.args.log.now c.close_file-out.new.log (part_of c.args.part.now).link (packet_lines c.args.log.now.authentication (part_of c.args.part.now).link logs.carriers)
+    (closes-behind _ _ c.new-text.result c.log_packets-ending.new.out c.args.log.now c.close_file-out.new.log (part_of c.args.part.now).link (packet_lines c.args.log.now.manner (part_of c.args.part.now).link logs.carriers)
     c.log_packets-ending.result c.close_file-out.result.1 c.new-text.ensures.start c.new-text.ensures.text logs.adds c.close_file-out.ensures.closes)
 
 pub returns-in-Ok-clause-read : goal.returns-in-Ok-clause-read
@@ -44,15 +44,15 @@ returns-in-Ok-clause-read g c = λ bytes is e.
     let out = c.args.out in
     let text : Begins (start ++ bytes) (S.given (source_of reader)) (S.at_end (source_of reader)) =
     subst (λ (s : g.row.R.Denot). Begins (start ++ bytes) (S.given s) (S.at_end s)) c.into_source.ensures is in
-    let ends = subst (λ (s : g.row.R.Denot). EndsSo S.given S.at_end c.args.log.now.authentication part.choice
+    let ends = subst (λ (s : g.row.R.Denot). EndsSo S.given S.at_end c.args.log.now.manner part.choice
     (S.given s) c.args.log.now.lines logs.carriers reader c.log_packets-ending.new.out c.log_packets-ending.result) c.in-Ok.ensures.source logs.ends in
-    let closes = closes-behind _ _ c.new-text.result c.log_packets-ending.new.out c.args.log.now c.close_file-out.new.log (part_of c.args.part.now).link (packet_lines c.args.log.now.authentication (part_of c.args.part.now).link logs.carriers)
+    let closes = closes-behind _ _ c.new-text.result c.log_packets-ending.new.out c.args.log.now c.close_file-out.new.log (part_of c.args.part.now).link (packet_lines c.args.log.now.manner (part_of c.args.part.now).link logs.carriers)
     c.log_packets-ending.result c.close_file-out.result.1 c.new-text.ensures.start c.new-text.ensures.text logs.adds c.close_file-out.ensures.closes in
     let unread = unread-only taken broken out c.close_file-out.result.0 c.args.log.now c.close_file-out.new.log link
-    (packet_lines c.args.log.now.authentication link logs.carriers) c.log_packets-ending.result c.close_file-out.result.1 closes e in
+    (packet_lines c.args.log.now.manner link logs.carriers) c.log_packets-ending.result c.close_file-out.result.1 closes e in
     elim (logs.unread unread) [
       | inl failed ↦ inl (ap S.broken c.into_source.ensures ∙ failed)
-      | inr far ↦ inr (far-bytes S.given S.at_end start bytes reader text c.args.log.now.authentication part.choice c.args.log.now.lines c.log_packets-ending.new.out logs.carriers (rw unread at ends) far)
+      | inr far ↦ inr (far-bytes S.given S.at_end start bytes reader text c.args.log.now.manner part.choice c.args.log.now.lines c.log_packets-ending.new.out logs.carriers (rw unread at ends) far)
     ]
 
 pub returns-in-Ok-clause-source : goal.returns-in-Ok-clause-source
@@ -64,7 +64,7 @@ returns-in-Ok-clause-source g c = λ no_read no_write.
     let part = part_of c.args.part.now in
     let link = part.link in
     let out = c.args.out in
-    let closes = closes-behind _ _ c.new-text.result c.log_packets-ending.new.out c.args.log.now c.close_file-out.new.log (part_of c.args.part.now).link (packet_lines c.args.log.now.authentication (part_of c.args.part.now).link logs.carriers)
+    let closes = closes-behind _ _ c.new-text.result c.log_packets-ending.new.out c.args.log.now c.close_file-out.new.log (part_of c.args.part.now).link (packet_lines c.args.log.now.manner (part_of c.args.part.now).link logs.carriers)
     c.log_packets-ending.result c.close_file-out.result.1 c.new-text.ensures.start c.new-text.ensures.text logs.adds c.close_file-out.ensures.closes in
     ap S.broken c.into_source.ensures
     ∙ logs.marks (λ e. no_read ((rw e at closes).0.out no_write).0)
@@ -107,13 +107,13 @@ returns-in-Ok-clause-unread g c = λ bytes gave e.
     let part = part_of c.args.part.now in
     let link = part.link in
     let out = c.args.out in
-    let ends = subst (λ (s : g.row.R.Denot). EndsSo S.given S.at_end c.args.log.now.authentication part.choice
+    let ends = subst (λ (s : g.row.R.Denot). EndsSo S.given S.at_end c.args.log.now.manner part.choice
     (S.given s) c.args.log.now.lines logs.carriers reader c.log_packets-ending.new.out c.log_packets-ending.result) c.in-Ok.ensures.source logs.ends in
-    let closes = closes-behind _ _ c.new-text.result c.log_packets-ending.new.out c.args.log.now c.close_file-out.new.log (part_of c.args.part.now).link (packet_lines c.args.log.now.authentication (part_of c.args.part.now).link logs.carriers)
+    let closes = closes-behind _ _ c.new-text.result c.log_packets-ending.new.out c.args.log.now c.close_file-out.new.log (part_of c.args.part.now).link (packet_lines c.args.log.now.manner (part_of c.args.part.now).link logs.carriers)
     c.log_packets-ending.result c.close_file-out.result.1 c.new-text.ensures.start c.new-text.ensures.text logs.adds c.close_file-out.ensures.closes in
     let gave_so : S.given (source_of reader) ≡ start ++ bytes = ap S.given (sym c.into_source.ensures) ∙ gave in
     let unread = unread-only taken broken out c.close_file-out.result.0 c.args.log.now c.close_file-out.new.log link
-    (packet_lines c.args.log.now.authentication link logs.carriers) c.log_packets-ending.result c.close_file-out.result.1 closes e in
+    (packet_lines c.args.log.now.manner link logs.carriers) c.log_packets-ending.result c.close_file-out.result.1 closes e in
     adds-unread S.given S.at_end start bytes reader taken broken out c.close_file-out.result.0 c.args.log.now c.close_file-out.new.log part c.args.log.now.lines
     c.log_packets-ending.new.out logs.carriers logs.are gave_so (rw unread at ends) c.close_file-out.result.1 (rw unread at closes) e
 
@@ -126,8 +126,8 @@ returns-in-Ok-clause-untouched g c = λ e.
     let link = part.link in
     let out = c.args.out in
     absurd (never-memory taken broken out c.close_file-out.result.0 c.args.log.now c.close_file-out.new.log link
-    (packet_lines c.args.log.now.authentication link logs.carriers) c.log_packets-ending.result c.close_file-out.result.1
-    (closes-behind _ _ c.new-text.result c.log_packets-ending.new.out c.args.log.now c.close_file-out.new.log (part_of c.args.part.now).link (packet_lines c.args.log.now.authentication (part_of c.args.part.now).link logs.carriers)
+    (packet_lines c.args.log.now.manner link logs.carriers) c.log_packets-ending.result c.close_file-out.result.1
+    (closes-behind _ _ c.new-text.result c.log_packets-ending.new.out c.args.log.now c.close_file-out.new.log (part_of c.args.part.now).link (packet_lines c.args.log.now.manner (part_of c.args.part.now).link logs.carriers)
     c.log_packets-ending.result c.close_file-out.result.1 c.new-text.ensures.start c.new-text.ensures.text logs.adds c.close_file-out.ensures.closes) e)
 
 pub returns-in-Ok-clause-says : goal.returns-in-Ok-clause-says

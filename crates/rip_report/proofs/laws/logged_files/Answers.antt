@@ -6,10 +6,10 @@ pub returns-clause-ends : goal.returns-clause-ends
 returns-clause-ends c = λ how number lines after part bytes text answer is. text-ends how number lines part bytes text after answer is
 
 pub returns-clause-says : goal.returns-clause-says
-returns-clause-says c = λ how number lines after file text answer records good is says.
+returns-clause-says c = λ how number lines after file text answer records plain good is says.
     let known = (c.log_texts.ensures.text text records).1 says in
     let reads : Reads 0 text records = cc known in
     file-records (record {
       right = c.packet_bytes.ensures.right;
       fault = c.packet_bytes.ensures.fault;
-    }) c.one_origin.ensures.some c.names.ensures.exact c.address_texts.ensures.exact how number lines file text after answer records good is reads
+    }) c.one_origin.ensures.some c.names.ensures.exact c.address_texts.ensures.exact how number lines file text after answer records plain good is reads

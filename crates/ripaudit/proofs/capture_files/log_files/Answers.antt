@@ -35,15 +35,15 @@ returns-then-ends_log-clause-log g c = λ files are wrote.
     let taken = g.K.Sink.taken in
     let word = c.log_word-back in
     let inv = c.loop-i.invariant in
-    ended-files (taken c.args.out) (taken word.result.0) word.new.log c.args.authentication i word.result.1 files (sym c.ends_log.ensures ∙ c.if-ends_log.true) (word.ensures.authentication ∙ inv.same)
+    ended-files (taken c.args.out) (taken word.result.0) word.new.log c.args.manner i word.result.1 files (sym c.ends_log.ensures ∙ c.if-ends_log.true) (word.ensures.manner ∙ inv.same)
     c.stopped_logs.ensures
     (next-file (texts words) _ i (length (texts words)) c.loop-i.sources.items word.ensures.kept.0 word.new.sources.items c.loop-i.log word.new.log (taken c.args.out) (taken c.loop-i.out) (taken word.result.0)
     word.result.1 (text-at words i) inv.opened word.ensures.kept.1 (below words i c.loop-i-test.true) inv.so_far word.ensures.goes_on files are wrote)
 
 pub returns-then-ends_log-clause-says : goal.returns-then-ends_log-clause-says
-returns-then-ends_log-clause-says g c = λ files are good wrote.
+returns-then-ends_log-clause-says g c = λ plain files are good wrote.
     let (text, took, log) = returns-then-ends_log-clause-log g c files are wrote in
-    (text, took, λ records says. c.captured_logs.ensures.says c.args.authentication files text c.log_word-back.result.1 records log good says)
+    (text, took, λ records says. c.captured_logs.ensures.says c.args.manner files text c.log_word-back.result.1 records plain log good says)
 
 pub loop-i-preserved : goal.loop-i-preserved
 loop-i-preserved g c =
@@ -54,7 +54,7 @@ loop-i-preserved g c =
     let inv = c.loop-i.invariant in
     record {
       opened = was-read _ word.result.1 (sym c.ends_log.ensures ∙ c.if-ends_log.false) word.ensures.read ∙ ap (λ n. n + 1) inv.opened;
-      same = word.ensures.authentication ∙ inv.same;
+      same = word.ensures.manner ∙ inv.same;
       so_far = λ files are.
           all-files (taken c.args.out) (taken word.result.0) word.new.log i word.result.1 files are.size (sym c.ends_log.ensures ∙ c.if-ends_log.false)
           (next-file (texts words) _ i (i + 1) c.loop-i.sources.items word.ensures.kept.0 word.new.sources.items c.loop-i.log word.new.log (taken c.args.out) (taken c.loop-i.out) (taken word.result.0)
@@ -70,6 +70,6 @@ returns-clause-log g c = λ files are wrote.
     (text, took, subst (λ h. LogOf h files text (Ok c.status.result)) c.loop-i.invariant.same (all (lines_of log) (status_of log) is.so_far (ap Ok c.status.ensures)))
 
 pub returns-clause-says : goal.returns-clause-says
-returns-clause-says g c = λ files are good wrote.
+returns-clause-says g c = λ plain files are good wrote.
     let (text, took, log) = returns-clause-log g c files are wrote in
-    (text, took, λ records says. c.captured_logs.ensures.says c.args.authentication files text (Ok c.status.result) records log good says)
+    (text, took, λ records says. c.captured_logs.ensures.says c.args.manner files text (Ok c.status.result) records plain log good says)

@@ -1,29 +1,51 @@
-use Rattle.std.proofs.Common.{◌≡◌, ◌≤◌, ◌∙◌, ◌+◌, ◌++◌, ◌∷◌, [], List, Option, None, ap, append-nil, arith, inl, inr, length, map, refl, sym, subst}
+use Rattle.std.proofs.Common.{◌≡◌, ◌≤◌, ◌∙◌, ◌+◌, ◌++◌, ◌∷◌, [], List, ℕ, Bool, Err, Option, None, ap, append-nil, arith, inl, inr, length, map, refl, sym, subst}
 use Rattle.std.proofs.lemmas.Bool.{false≢true}
 use Rattle.std.proofs.lemmas.List.{length-map}
 use Rattle.rip_log.proofs.WholeLemmas.{went_nowhere, went_on}
 use Rattle.rip_capture.specs.NextCall.{Stands, TakesPacket, frame_of, place_of, position_of, section_by, source_of}
 use Rattle.rip_capture.specs.Pcap.{Frame}
 use Rattle.rip_capture.specs.declared.error.CaptureCode.TheVariants.{Read}
-use Rattle.rip_report.specs.CapturePackets.{Keeps, ended_at}
+use Rattle.rip_report.specs.CapturePackets.{EndsSo, Keeps, LogsSo, ended_at}
+use Rattle.rip_report.specs.LineTimes.{span_of}
+use Rattle.rip_report.specs.declared.captures.ending.Ending.TheVariants.{Refused}
+use Rattle.rip_report.specs.declared.captures.ending.RefusalCode.{RefusalCode}
+use Rattle.rip_report.specs.declared.captures.ending.RefusalCode.TheVariants.{Capture, Time, TooManyLines}
+use Rattle.rip_report.specs.declared.captures.manner.Manner.{Manner}
+use Rattle.rip_report.specs.declared.captures.tally.Tally.{Tally}
+use Rattle.rip_capture.specs.declared.reader.CaptureReader.{CaptureReader}
+use Rattle.rip_report.proofs.LineTimeLemmas.{shown-with, span-snoc}
 use Rattle.rip_capture.specs.Origins.{origin_in}
-use Rattle.rip_report.specs.CaptureText.{counted, omitted_of}
-use Rattle.rip_report.specs.Selections.{Carrier, choice_of, first_behind}
-use Rattle.rip_report.specs.Outs.{IsOnItsWay, Progress}
+use Rattle.rip_report.specs.CaptureText.{counted, line_count, omitted_of, packet_lines}
+use Rattle.rip_report.specs.Selections.{Carrier, Choice, IsCarrier, IsLogged, choice_of, first_behind}
+use Rattle.rip_report.specs.Outs.{Adds, IsOnItsWay, Progress}
 use Rattle.rip_report.proofs.CaptureLemmas.{adds-packet, all-last, carriers-snoc, counts-snoc, first-snoc, keeps-none, ends-at, ends-by, far, stops-far, frames-snoc, has-room, line_count-snoc, never-unread, read-is_unread, unread-is_read}
-use Rattle.rip_report.proofs.OutLemmas.{adds_none, way_after}
+use Rattle.rip_report.proofs.OutLemmas.{adds_none, adds_same, adds_then, way_after}
 use Rattle.rip_report.proofs.captures.packets.log_packets.Goals as goal
+
+-- what a packet that was not logged leaves
+not-logged : {R : Type 0} (given : R → List ℕ) (at_end : R → Bool) (how : Manner) (choice : Choice) (link before : List ℕ) (lines : ℕ) (cs : List Carrier) (p : Carrier) (code : RefusalCode) (at : ℕ) (old new : Tally)
+    (out after : Progress) (reader : CaptureReader R) → LogsSo how link p old new out after (Err code) → IsCarrier p → IsLogged choice (first_behind None cs) p.frame p.carried p.logged
+    → TakesPacket given before (map (λ c. c.frame) cs) p.frame at reader → old.lines ≡ lines + line_count cs → (after ≡ out) × EndsSo given at_end how choice before lines cs reader after (Refused code at)
+not-logged given at_end how choice link before lines cs p TooManyLines at old new out after reader (nothing, lacks) is logged takes count =
+    (nothing.text, (omega (arith, count, lacks.many), inl (p, is, logged, takes, lacks.line, lacks.time)))
+not-logged given at_end how choice link before lines cs p Time at old new out after reader (nothing, lacks) is logged takes count = (nothing.text, (p, is, logged, takes, lacks))
+not-logged given at_end how choice link before lines cs p (Capture code) at old new out after reader logs is logged takes count = absurd logs
+
+-- what was sent is the same text
+adds-so : {a b d : Progress} (text : List ℕ) → Adds a b text → Adds b d [] → Adds a d text
+adds-so text f g = adds_same (append-nil text) (adds_then f g)
 
 pub packets-init : goal.packets-init
 packets-init g c =
     let S = g.R.Source in
     record {
       carriers = [];
-      are = record { carry = tt; logged = tt };
+      are = record { carry = tt; logged = tt; timed = tt };
+      span = refl;
       keeps = keeps-none (choice_of c.args.part.now.packets) c.args.first.now c.requires.first;
       taken = [];
       stands = c.requires.front;
-      counts = c.new.ensures c.args.authentication;
+      counts = c.new.ensures c.args.manner;
       lines = omega arith;
       few = c.requires.lines;
       adds = adds_none c.args.out.now;
@@ -35,7 +57,7 @@ packets-init g c =
     }
 
 pub log_packet-requires-clause-room : goal.log_packet-requires-clause-room
-log_packet-requires-clause-room g c = has-room c.args.authentication c.packets.tally.counts c.packets.invariant.carriers c.packets.invariant.counts c.packets-test.true
+log_packet-requires-clause-room g c = has-room c.args.manner c.packets.tally.counts c.packets.invariant.carriers c.packets.invariant.counts c.packets-test.true
 
 pub log_packet-requires-clause-short : goal.log_packet-requires-clause-short
 log_packet-requires-clause-short g c =
@@ -62,37 +84,38 @@ packets-preserved g c =
     let p = did.carrier in
     let goes : TakesPacket S.given before (map (λ c. c.frame) inv.carriers) p.frame (place_of packet) now =
     subst (λ (f : Frame). TakesPacket S.given before (map (λ c. c.frame) inv.carriers) f (place_of packet) now) (sym did.frame_is) (runs.goes before inv.taken (map (λ c. c.frame) inv.carriers) inv.stands) in
-    let are = carriers-snoc (choice_of c.args.part.now.packets) inv.carriers p inv.are did.carries did.logged in
-    let logs = rw c.if-not-log_packet.false at did.logs in
+    let logs = rw c.in-Ok.is at did.logs in
     let cs = inv.carriers in
-    let adds = adds-packet c.args.authentication c.args.part.now.link.now cs p inv.adds logs.adds in
+    let are = carriers-snoc c.args.manner (choice_of c.args.part.now.packets) cs p inv.are did.carries did.logged logs.timed in
+    let adds = adds-packet c.args.manner c.args.part.now.link.now cs p (adds-so (packet_lines c.args.manner c.args.part.now.link.now inv.carriers) inv.adds c.send_before_wait.ensures) logs.adds in
     record {
       carriers = cs ++ p ∷ [];
       are = are;
+      span = rw (logs.span, span-snoc None cs p) (shown-with c.packets.tally.span (span_of cs) logs.micros p.at inv.span logs.shown);
       keeps = subst (λ (o : Option Frame). Keeps (choice_of c.args.part.now.packets) o (origin_in c.log_packet.new.first)) (sym (first-snoc None cs p)) did.keeps;
       taken = goes.front ++ goes.bytes;
       stands = subst (λ (fs : List Frame). Stands S.given before now (goes.front ++ goes.bytes) fs) (sym (frames-snoc cs p)) goes.stands;
-      counts = logs.counts ∙ ap (λ n. counted n p.logged (omitted_of c.args.authentication p.frame.bytes p.logged)) inv.counts ∙ sym (counts-snoc c.args.authentication cs p);
+      counts = logs.counts ∙ ap (λ n. counted n p.logged (omitted_of c.args.manner.authentication p.frame.bytes p.logged)) inv.counts ∙ sym (counts-snoc c.args.manner cs p);
       lines = omega (arith, logs.lines, inv.lines, line_count-snoc cs p);
       few = logs.few;
       adds = adds;
       went = went_on S.given S.coming S.at_end (source_of c.args.reader.now) (source_of c.packets.reader) (source_of now) inv.went runs.moves.went;
       running = h.refused;
       marks = runs.moves.marks refl ∙ inv.marks;
-      sound = λ sound. sym c.has_failed.ensures.failed ∙ c.if-has_failed.false;
-      way = λ sound way. way_after g.K.Sink.taken g.K.Sink.broken adds (c.has_failed.ensures.way c.if-has_failed.false);
+      sound = λ sound. sym c.has_failed-in-Ok-Some.ensures.failed ∙ c.if-has_failed-2.false;
+      way = λ sound way. way_after g.K.Sink.taken g.K.Sink.broken adds (c.has_failed-in-Ok-Some.ensures.way c.if-has_failed-2.false);
     }
 
 pub packets-smaller : goal.packets-smaller
 packets-smaller g c =
     let inv = c.packets.invariant in
     let did = c.log_packet.ensures (first_behind None inv.carriers) inv.keeps in
-    let logs = rw c.if-not-log_packet.false at did.logs in
+    let logs = rw c.in-Ok.is at did.logs in
     let more : c.log_packet.new.tally.counts.packets ≡ c.packets.tally.counts.packets + 1 = ap (λ n. n.packets) logs.counts in
     omega (arith, more, c.packets-test.true)
 
-pub returns-then-not-log_packet : goal.returns-then-not-log_packet
-returns-then-not-log_packet g c =
+pub returns-in-Err-log_packet : goal.returns-in-Err-log_packet
+returns-in-Err-log_packet g c =
     let S = g.R.Source in
     let inv = c.packets.invariant in
     let now = c.next.follows.lender-at-none in
@@ -104,22 +127,24 @@ returns-then-not-log_packet g c =
     let p = did.carrier in
     let goes : TakesPacket S.given before (map (λ c. c.frame) inv.carriers) p.frame (place_of packet) now =
     subst (λ (f : Frame). TakesPacket S.given before (map (λ c. c.frame) inv.carriers) f (place_of packet) now) (sym did.frame_is) (runs.goes before inv.taken (map (λ c. c.frame) inv.carriers) inv.stands) in
-    let are = carriers-snoc (choice_of c.args.part.now.packets) inv.carriers p inv.are did.carries did.logged in
-    let lacks = rw c.if-not-log_packet.true at did.logs in
+    let logs : LogsSo c.args.manner c.args.part.now.link.now p c.packets.tally c.log_packet.new.tally c.send_before_wait.new.out c.log_packet.new.out (Err c.in-Err-log_packet.code) =
+        subst (LogsSo c.args.manner c.args.part.now.link.now p c.packets.tally c.log_packet.new.tally c.send_before_wait.new.out c.log_packet.new.out) c.in-Err-log_packet.is did.logs in
+    let (same, ends) = not-logged S.given S.at_end c.args.manner (choice_of c.args.part.now.packets) c.args.part.now.link.now before c.args.lines inv.carriers p c.in-Err-log_packet.code (place_of packet)
+    c.packets.tally c.log_packet.new.tally c.send_before_wait.new.out c.log_packet.new.out now logs did.carries did.logged goes inv.lines in
     record {
       carriers = inv.carriers;
       are = inv.are;
       few = omega (arith, inv.lines, inv.few);
-      adds = rw lacks.text inv.adds;
-      ends = (omega (arith, inv.lines, lacks.many), inl (p, are, goes, lacks.line));
+      adds = rw same (adds-so (packet_lines c.args.manner c.args.part.now.link.now inv.carriers) inv.adds c.send_before_wait.ensures);
+      ends = ends;
       went = went_on S.given S.coming S.at_end (source_of c.args.reader.now) (source_of c.packets.reader) (source_of now) inv.went runs.moves.went;
       unread = λ e. cc e;
       marks = λ e. runs.moves.marks refl ∙ inv.marks;
-      stops = λ sound way failed. absurd (false≢true (sym (inv.sound sound) ∙ ap (λ (t : Progress). t.failed) (sym lacks.text) ∙ failed));
+      stops = λ sound way failed. absurd (false≢true (sym (sym c.has_failed.ensures.failed ∙ c.if-has_failed.false) ∙ ap (λ (t : Progress). t.failed) (sym same) ∙ failed));
     }
 
-pub returns-then-has_failed : goal.returns-then-has_failed
-returns-then-has_failed g c =
+pub returns-then-has_failed-2 : goal.returns-then-has_failed-2
+returns-then-has_failed-2 g c =
     let S = g.R.Source in
     let inv = c.packets.invariant in
     let now = c.next.follows.lender-at-none in
@@ -131,22 +156,22 @@ returns-then-has_failed g c =
     let p = did.carrier in
     let goes : TakesPacket S.given before (map (λ c. c.frame) inv.carriers) p.frame (place_of packet) now =
     subst (λ (f : Frame). TakesPacket S.given before (map (λ c. c.frame) inv.carriers) f (place_of packet) now) (sym did.frame_is) (runs.goes before inv.taken (map (λ c. c.frame) inv.carriers) inv.stands) in
-    let are = carriers-snoc (choice_of c.args.part.now.packets) inv.carriers p inv.are did.carries did.logged in
-    let logs = rw c.if-not-log_packet.false at did.logs in
+    let logs = rw c.in-Ok.is at did.logs in
     let cs = inv.carriers in
+    let are = carriers-snoc c.args.manner (choice_of c.args.part.now.packets) cs p inv.are did.carries did.logged logs.timed in
     record {
       carriers = cs ++ p ∷ [];
       are = are;
       few = omega (arith, logs.lines, inv.lines, line_count-snoc cs p, logs.few);
-      adds = adds-packet c.args.authentication c.args.part.now.link.now cs p inv.adds logs.adds;
+      adds = adds-packet c.args.manner c.args.part.now.link.now cs p (adds-so (packet_lines c.args.manner c.args.part.now.link.now inv.carriers) inv.adds c.send_before_wait.ensures) logs.adds;
       ends = (
-        sym c.has_failed.ensures.failed ∙ c.if-has_failed.true,
+        sym c.has_failed-in-Ok-Some.ensures.failed ∙ c.if-has_failed-2.true,
         (goes.front ++ goes.bytes, subst (λ (fs : List Frame). Stands S.given before now (goes.front ++ goes.bytes) fs) (sym (frames-snoc cs p)) goes.stands),
       );
       went = went_on S.given S.coming S.at_end (source_of c.args.reader.now) (source_of c.packets.reader) (source_of now) inv.went runs.moves.went;
       unread = λ e. cc e;
       marks = λ e. runs.moves.marks refl ∙ inv.marks;
-      stops = λ sound way failed. (refl, record { front = cs; last = p; split = refl; way = inv.way sound way });
+      stops = λ sound way failed. (refl, record { front = cs; last = p ∷ []; split = refl; few = omega arith; way = inv.way sound way });
     }
 
 pub returns-in-Ok-None : goal.returns-in-Ok-None
@@ -164,12 +189,12 @@ returns-in-Ok-None g c =
       carriers = inv.carriers;
       are = inv.are;
       few = omega (arith, inv.lines, inv.few);
-      adds = inv.adds;
-      ends = ends-at S.given S.at_end c.args.authentication (choice_of c.args.part.now.packets) before c.args.lines inv.carriers now c.packets.out tally here inv.counts inv.lines inv.few;
+      adds = (adds-so (packet_lines c.args.manner c.args.part.now.link.now inv.carriers) inv.adds c.send_before_wait.ensures);
+      ends = ends-at S.given S.at_end c.args.manner (choice_of c.args.part.now.packets) before c.args.lines inv.carriers now c.send_before_wait.new.out tally here inv.counts inv.lines inv.few inv.span;
       went = went_on S.given S.coming S.at_end (source_of c.args.reader.now) (source_of c.packets.reader) (source_of now) inv.went runs.moves.went;
       unread = λ e. absurd (never-unread tally (position_of now) e);
       marks = λ e. runs.moves.marks refl ∙ inv.marks;
-      stops = λ sound way failed. absurd (false≢true (sym (inv.sound sound) ∙ failed));
+      stops = λ sound way failed. absurd (false≢true (sym (sym c.has_failed.ensures.failed ∙ c.if-has_failed.false) ∙ failed));
     })
 
 pub returns-in-Err : goal.returns-in-Err
@@ -181,17 +206,17 @@ returns-in-Err g c =
     let runs = h.runs inv.running in
     let before = S.given (source_of c.args.reader.now) in
     let goes = runs.goes before inv.taken (map (λ c. c.frame) inv.carriers) inv.stands in
-    let ends = ends-by S.given S.at_end c.args.authentication (choice_of c.args.part.now.packets) before c.args.lines inv.carriers now c.packets.out c.in-Err.error.code c.in-Err.error.at goes in
+    let ends = ends-by S.given S.at_end c.args.manner (choice_of c.args.part.now.packets) before c.args.lines inv.carriers now c.send_before_wait.new.out c.in-Err.error.code c.in-Err.error.at goes in
     rw c.ended_by.ensures (record {
       carriers = inv.carriers;
       are = inv.are;
       few = omega (arith, inv.lines, inv.few);
-      adds = inv.adds;
+      adds = (adds-so (packet_lines c.args.manner c.args.part.now.link.now inv.carriers) inv.adds c.send_before_wait.ensures);
       ends = ends;
       went = went_on S.given S.coming S.at_end (source_of c.args.reader.now) (source_of c.packets.reader) (source_of now) inv.went runs.moves.went;
       unread = λ e. runs.moves.failed (unread-is_read c.in-Err.error.code c.in-Err.error.at e);
       marks = λ e. runs.moves.marks (read-is_unread c.in-Err.error.code c.in-Err.error.at e) ∙ inv.marks;
-      stops = λ sound way failed. absurd (false≢true (sym (inv.sound sound) ∙ failed));
+      stops = λ sound way failed. absurd (false≢true (sym (sym c.has_failed.ensures.failed ∙ c.if-has_failed.false) ∙ failed));
     })
 
 pub returns : goal.returns

@@ -4,6 +4,7 @@ use Rattle.rip_log.specs.declared.limits.TheConstants.{MOST_LINES}
 use Rattle.rip_capture.specs.NextCall.{Stands, refusal_of, source_of}
 use Rattle.rip_capture.specs.Origins.{origin_in}
 use Rattle.rip_report.specs.CapturePackets.{Keeps}
+use Rattle.rip_report.specs.LineTimes.{AreShown, span_of}
 use Rattle.rip_report.specs.CaptureText.{AreCarriers, counts_of, line_count, packet_lines}
 use Rattle.rip_report.specs.Selections.{Carrier, choice_of, first_behind}
 use Rattle.rip_report.specs.Outs.{Adds, IsOnItsWay}
@@ -14,20 +15,21 @@ invariant-packets g l =
     let S = g.R.Source in
     record {
       carriers : List Carrier;
-      are : AreCarriers (choice_of l.part.packets) carriers;
+      are : AreCarriers l.manner (choice_of l.part.packets) carriers;
+      span : AreShown l.tally.span (span_of carriers);
       keeps : Keeps (choice_of l.part.packets) (first_behind None carriers) (origin_in l.first);
       taken : List ℕ;
       stands : Stands S.given (S.given (source_of l.fn.reader)) l.reader taken (map (λ c. c.frame) carriers);
-      counts : l.tally.counts ≡ counts_of l.authentication carriers;
+      counts : l.tally.counts ≡ counts_of l.manner carriers;
       lines : l.tally.lines ≡ l.lines + line_count carriers;
       few : l.tally.lines ≤ MOST_LINES;
-      adds : Adds l.fn.out l.out (packet_lines l.authentication l.part.link.now carriers);
+      adds : Adds l.fn.out l.out (packet_lines l.manner l.part.link.now carriers);
       went : Went S.given S.coming S.at_end (source_of l.fn.reader) (source_of l.reader);
       running : refusal_of l.reader ≡ None;
       marks : S.broken (source_of l.reader) ≡ S.broken (source_of l.fn.reader);
       sound : l.fn.out.failed ≡ false → l.out.failed ≡ false;
       way : l.fn.out.failed ≡ false → IsOnItsWay g.K.Sink.taken g.K.Sink.broken l.fn.out.start l.fn.out.text →
-          IsOnItsWay g.K.Sink.taken g.K.Sink.broken l.fn.out.start (l.fn.out.text ++ packet_lines l.authentication l.part.link.now carriers);
+          IsOnItsWay g.K.Sink.taken g.K.Sink.broken l.fn.out.start (l.fn.out.text ++ packet_lines l.manner l.part.link.now carriers);
     }
 
 abbrev pub decreases-packets : goal.decreases-packets

@@ -10,7 +10,7 @@ returns-clause-empty c = record { count = refl; so_far = none }
 pub returns-clause-says : goal.returns-clause-says
 returns-clause-says c = record {
   ends = inl refl;
-  says = λ are records log.
+  says = λ plain are records log.
       let known = (c.log_texts.ensures.text [] records).1 log in
       let reads : Reads 0 [] records = cc known in
       (refl, ap (map (λ (r : Numbered). r.capture)) (sym (ap (λ (l : Log). l.records) reads)));
