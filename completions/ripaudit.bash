@@ -16,7 +16,7 @@ _ripaudit() {
     :0:-*) _ripaudit_words --help --version ;;
     audit:*:-* | explain:*:-* | whatif:*:-*) _ripaudit_words --all --help ;;
     routes:*:-* | table:*:-*) _ripaudit_words --anyway --help ;;
-    log:*:-*) _ripaudit_words --without-authentication --help ;;
+    log:*:-*) _ripaudit_words --without-authentication --times --help ;;
     *:-*) _ripaudit_words --help ;;
     :0:* | help:0:*) _ripaudit_words audit explain heard routes table expect whatif plan log decode help ;;
     audit:0:* | explain:0:* | heard:0:* | routes:0:* | table:0:* | expect:0:* | whatif:0:* | plan:0:*) _ripaudit_files '*.toml' ;;
@@ -40,7 +40,7 @@ _ripaudit_files() {
     fi
 }
 
-# A capture, or what follows LINK=, at which bash breaks words.
+# A capture, or what follows LINK= or LINK@WHICH=. Bash breaks words at = and @.
 _ripaudit_captures() {
     current=${current#*=}
     _ripaudit_files '*'

@@ -28,6 +28,7 @@ complete -c ripaudit -n '__ripaudit_word 2; and __fish_seen_subcommand_from help
 complete -c ripaudit -n '__fish_seen_subcommand_from audit explain' -l all -d 'tell of each place, not only of the first'
 complete -c ripaudit -n '__fish_seen_subcommand_from routes table' -l anyway -d "leave out what is refused, a stranger's or bad, and go on"
 complete -c ripaudit -n '__fish_seen_subcommand_from log' -l without-authentication -d 'print datagrams as they would be without their authentication'
+complete -c ripaudit -n '__fish_seen_subcommand_from log' -l times -d 'begin each line of a packet with its time'
 complete -c ripaudit -n '__fish_seen_subcommand_from whatif' -l all -d 'name each router and prefix that is lost, and each prefix that is gone'
 complete -c ripaudit -n '__ripaudit_word 2; and __fish_seen_subcommand_from audit explain heard routes table expect whatif plan' \
     -k -a '(__fish_complete_suffix .toml)'
