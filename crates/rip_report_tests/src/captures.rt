@@ -2,15 +2,24 @@
 
 mod authentication;
 mod devices;
+mod parts;
 mod texts;
 
 use rip_log::{FromRead, IntoWrite};
-use rip_report::{Authentication, CaptureLog, RunError, Status, run_log};
+use rip_report::{
+    Authentication, CaptureLog, FilePart, Manner, RunError, Selection, Status, run_log,
+};
 use rip_wire::is_name;
 use std::alloc::{AllocError, Global};
 use std::io::{Read, Write};
 use std::process::Abort;
 use std::test::Fail;
+
+/// Datagrams as they were sent, and no times.
+pub(crate) const PLAIN: Manner = Manner {
+    authentication: Authentication::AsSent,
+    times: false,
+};
 
 /// The header of a file of network bytes.
 pub(crate) const HEADER: [u8; 24] = [
@@ -134,7 +143,20 @@ pub(crate) fn file_of(alloc: Global, packets: &[&[u8]]) -> Result<Vec<u8>, Alloc
     Ok(file)
 }
 
-/// Adds a file to a log, of a link with a right name.
+/// Adds a part of a file to a log, of a link with a right name.
+pub(crate) fn add_part<R: Read + Drop, W: Write>(
+    rt: &impl Abort,
+    alloc: Global,
+    log: &mut CaptureLog,
+    part: &FilePart<'_>,
+    file: R,
+    out: IntoWrite<W>,
+) -> (FromRead<R>, IntoWrite<W>, Result<Status, RunError>) {
+    assert!(rt; is_name(part.link.as_bytes()));
+    run_log(alloc, log, part, FromRead::new(file), out)
+}
+
+/// Adds a file to a log, all of which is the link's of this name.
 pub(crate) fn add<R: Read + Drop, W: Write>(
     rt: &impl Abort,
     alloc: Global,
@@ -143,26 +165,29 @@ pub(crate) fn add<R: Read + Drop, W: Write>(
     file: R,
     out: IntoWrite<W>,
 ) -> (FromRead<R>, IntoWrite<W>, Result<Status, RunError>) {
-    assert!(rt; is_name(link.as_bytes()));
-    run_log(alloc, log, link, FromRead::new(file), out)
+    let part = FilePart {
+        link,
+        packets: Selection::OneOrigin,
+    };
+    add_part(rt, alloc, log, &part, file, out)
 }
 
 /// Expects the status and the text of a log of one file, of the link a, with the authentication of its
-/// datagrams as it was sent.
+/// datagrams as it was sent, and without times.
 pub(crate) fn expect_log(rt: &impl Abort, alloc: Global, file: &[u8], status: Status, text: &str) {
-    expect_log_with(rt, alloc, Authentication::AsSent, file, status, text);
+    expect_log_with(rt, alloc, PLAIN, file, status, text);
 }
 
 /// Expects the status and the text of a log of one file, of the link a.
 pub(crate) fn expect_log_with(
     rt: &impl Abort,
     alloc: Global,
-    authentication: Authentication,
+    manner: Manner,
     file: &[u8],
     status: Status,
     text: &str,
 ) {
-    let mut log = CaptureLog::new(authentication);
+    let mut log = CaptureLog::new(manner);
     let out = IntoWrite::new(Vec::new(alloc));
     let (_, out, answer) = add(rt, alloc, &mut log, "a", file, out);
     assert_eq!(rt; answer, Ok(status));

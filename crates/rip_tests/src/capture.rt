@@ -1,5 +1,7 @@
 //! Captures: files of both byte orders, in pieces, cut, and from readers that fail.
 
+mod origins;
+
 use crate::devices::Pieces;
 use crate::examples::{BLOCKS, LITTLE};
 use rip_capture::{
@@ -10,6 +12,7 @@ use rip_log::{FromRead, Source};
 use rip_wire::Address;
 use std::alloc::Global;
 use std::process::Abort;
+use std::test::Fail;
 
 /// Ethernet, big endian, nanoseconds.
 const BIG: [u8; 106] = [
@@ -181,6 +184,22 @@ fn reads_what_a_record_needs(rt: HostRuntime) {
         }
         assert!(rt; reader.into_source().into_reader().calls() == reads);
     }
+}
+
+/// Of two records the second one is held behind the first, if they come at once.
+#[test]
+fn what_is_held_is_ready(rt: HostRuntime) -> Result<(), Fail> {
+    let mut file = Vec::new(rt.alloc());
+    file.extend_from_slice(&LITTLE)?;
+    file.extend_from_slice(&LITTLE[24..])?;
+    for (piece, ready) in [(1, false), (4096, true)] {
+        let mut reader = reader_of(&rt, rt.alloc(), Pieces::new(file.as_slice(), piece));
+        for due in [false, ready, false] {
+            assert!(rt; reader.is_ready() == due);
+            assert!(rt; reader.next().is_ok());
+        }
+    }
+    Ok(())
 }
 
 /// A file whose byte at a place is another has a fault.

@@ -9,10 +9,13 @@ ghost use Rattle.rip_report.specs.AuditText.{AuditText, IsJudged};
 ghost use Rattle.rip_report.specs.CaptureLogs.{LogOf};
 ghost use Rattle.rip_report.specs.Given.{IsGiven};
 ghost use Rattle.rip_report.specs.ReportText.{IsAccepted};
+ghost use Rattle.rip_report.specs.Selections.{OneOrigin};
 ghost use Rattle.rip_report.specs.declared.captures.authentication.Authentication.{Authentication};
 
 use rip_log::{FromRead, IntoWrite, Sink, Source};
-use rip_report::{Authentication, CaptureLog, RunError, Status, run_audit, run_log};
+use rip_report::{
+    Authentication, CaptureLog, FilePart, Manner, RunError, Selection, Status, run_audit, run_log,
+};
 use rip_tests::examples::{LITTLE, PHANTOM, SETTLED, TRIANGLE};
 use rip_wire::is_name;
 use std::alloc::Global;
@@ -34,8 +37,9 @@ fn verdict_of<R: Source, K: Sink>(
     run_audit(alloc, plan, log, out, false, hasher)
 }
 
-/// Writes the log of one capture file, of a link. Where the sink fails a beginning of it goes out, and else
-/// the whole: it ends in a line that says so where the file is refused or could not be read.
+/// Writes the log of one capture file, all of which is a link's. Where the sink fails a beginning of it
+/// goes out, and else the whole: it ends in a line that says so where the file is refused or could not
+/// be read.
 fn log_of<R: Source, K: Sink>(
     alloc: Global,
     link: &str,
@@ -45,11 +49,20 @@ fn log_of<R: Source, K: Sink>(
     requires { IsName link.now }
     ensures { (bytes : List ℕ) → IsGiven R.given R.at_end file result.0 bytes →
         result.2 ≢ Err RunError.Write → (text : List ℕ)
-        × LogOf Authentication.AsSent (record { link = link.now; bytes = bytes } ∷ []) text result.2
+        × LogOf (record { authentication = Authentication.AsSent; times = false })
+        (record { part = record { link = link.now; choice = OneOrigin }; bytes = bytes } ∷ [])
+        text result.2
         × Took (K.taken out) (K.taken result.1) text }
 {
-    let mut log = CaptureLog::new(Authentication::AsSent);
-    run_log(alloc, &mut log, link, file, out)
+    let mut log = CaptureLog::new(Manner {
+        authentication: Authentication::AsSent,
+        times: false,
+    });
+    let part = FilePart {
+        link,
+        packets: Selection::OneOrigin,
+    };
+    run_log(alloc, &mut log, &part, file, out)
 }
 
 /// Audits a plan and a log in memory, and adds the lines of the verdict to a vector. The vector comes

@@ -1,7 +1,7 @@
 //! Logs of datagrams that are authenticated, as they were sent and without their authentication.
 
 use super::{expect_log_with, file_of};
-use rip_report::{Authentication, Status};
+use rip_report::{Authentication, Manner, Status};
 use std::test::Fail;
 
 /// A password, and a response of an entry behind it.
@@ -44,8 +44,12 @@ fn authentication_as_sent_and_removed(rt: HostRuntime) -> Result<(), Fail> {
         (Authentication::AsSent, SENT),
         (Authentication::Removed, REMOVED),
     ] {
+        let manner = Manner {
+            authentication,
+            times: false,
+        };
         let file = file.as_slice();
-        expect_log_with(&rt, rt.alloc(), authentication, file, Status::Done, text);
+        expect_log_with(&rt, rt.alloc(), manner, file, Status::Done, text);
     }
     Ok(())
 }

@@ -1,8 +1,8 @@
 //! Capture files in pieces, and from sources that fail, to sinks that fail.
 
-use super::{CUT, DATAGRAM, add, file_of};
+use super::{CUT, DATAGRAM, PLAIN, add, file_of};
 use rip_log::{FromRead, IntoWrite, Sink, Source};
-use rip_report::{Authentication, CaptureLog, RunError, Status};
+use rip_report::{CaptureLog, RunError, Status};
 use rip_tests::devices::{Pieces, Slow};
 use rip_tests::examples::BLOCKS;
 use std::alloc::Global;
@@ -37,7 +37,7 @@ fn expect_answer<'a>(
     due: Result<Status, RunError>,
     text: &str,
 ) -> FromRead<Pieces<'a>> {
-    let mut log = CaptureLog::new(Authentication::AsSent);
+    let mut log = CaptureLog::new(PLAIN);
     let out = IntoWrite::new(Vec::new(alloc));
     let (source, out, answer) = add(rt, alloc, &mut log, "a", file, out);
     assert!(rt; answer == due && !out.failed());
@@ -80,7 +80,7 @@ fn a_source_that_fails(rt: HostRuntime) -> Result<(), Fail> {
 
 /// Expects the beginning of the text where the sink fails after so many bytes of it.
 fn expect_write_failure(rt: &impl Abort, alloc: Global, file: &[u8], most: usize) {
-    let mut log = CaptureLog::new(Authentication::AsSent);
+    let mut log = CaptureLog::new(PLAIN);
     let out = IntoWrite::new(Slow::new(alloc, most));
     let (source, out, answer) = add(rt, alloc, &mut log, "a", file, out);
     assert!(rt; answer == Err(RunError::Write) && out.failed() && !source.failed());

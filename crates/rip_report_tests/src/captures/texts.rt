@@ -1,9 +1,9 @@
 //! Texts of logs of capture files: several files, one that is refused, long datagrams, what `rip_log` reads in
 //! them, and a log that is full.
 
-use super::{CUT, DATAGRAM, HEADER, add, expect_log, file_of};
+use super::{CUT, DATAGRAM, HEADER, PLAIN, add, expect_log, file_of};
 use rip_log::{FromRead, IntoWrite, LogReader, Record};
-use rip_report::{Authentication, CaptureLog, RunError, Status, log_failure};
+use rip_report::{CaptureLog, RunError, Status, log_failure};
 use rip_tests::devices::{Endless, Pieces};
 use rip_tests::examples::LITTLE;
 use rip_wire::Address;
@@ -35,7 +35,7 @@ a 10.1.0.2 cut
 fn two_files(rt: HostRuntime) -> Result<(), Fail> {
     let alloc = rt.alloc();
     let file = file_of(alloc, &[DATAGRAM, CUT])?;
-    let mut log = CaptureLog::new(Authentication::AsSent);
+    let mut log = CaptureLog::new(PLAIN);
     let out = IntoWrite::new(Vec::new(alloc));
     let (_, out, first) = add(&rt, alloc, &mut log, "a", file.as_slice(), out);
     let (_, out, second) = add(&rt, alloc, &mut log, "10.2.0.0-16", &LITTLE[..], out);
@@ -120,7 +120,7 @@ fn expect_record(rt: &impl Abort, record: &Record<'_>, line: u32, sender: &str, 
 fn logs_read_back(rt: HostRuntime) -> Result<(), Fail> {
     let alloc = rt.alloc();
     let file = file_of(alloc, &[DATAGRAM, b"\x60", DATAGRAM])?;
-    let mut log = CaptureLog::new(Authentication::AsSent);
+    let mut log = CaptureLog::new(PLAIN);
     let out = IntoWrite::new(Vec::new(alloc));
     let (_, out, first) = add(&rt, alloc, &mut log, "a", &LITTLE[..], out);
     let (_, out, second) = add(&rt, alloc, &mut log, "a", file.as_slice(), out);
@@ -165,7 +165,7 @@ fn lines_of_failures(rt: HostRuntime) {
 #[test]
 fn a_log_that_is_full(rt: HostRuntime) {
     let alloc = rt.alloc();
-    let mut log = CaptureLog::new(Authentication::AsSent);
+    let mut log = CaptureLog::new(PLAIN);
     let out = IntoWrite::new(Vec::new(alloc));
     let file = (&HEADER[..]).chain(Endless::new(0, 65_536));
     let (_, out, answer) = add(&rt, alloc, &mut log, "a", file, out);
