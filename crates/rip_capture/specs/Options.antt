@@ -6,7 +6,8 @@ use Rattle.rip_capture.specs.declared.interface.Name.{Name}
 use Rattle.rip_capture.specs.declared.limits.TheConstants.{MOST_NAME}
 use Rattle.rip_capture.specs.declared.numbers.Order.{Order}
 
--- an option: its number, the length of its value, the value, and what fills it up to a multiple of 4
+-- an option: its number, the length of its value, the value, and what fills it up to a multiple
+-- of 4
 abbrev pub option_number : Order → List ℕ → ℕ
 option_number order b = short_in order 0 b
 

@@ -168,7 +168,8 @@ pub data Does (s : Option Section) (order : Order) (b : List ℕ) (kind : BlockK
   section : kind ≡ kinds.Section → IsSectionVersion order b → frames ≡ [] →
       next ≡ record { order = order; interfaces = [] } → Does s order b kind frames next
   interface : (now : Section) (i : Interface) → kind ≡ kinds.Interface → s ≡ Some now →
-      length now.interfaces < MOST_INTERFACES → Describes order (options_in b) (interface_in order b) i →
+      length now.interfaces < MOST_INTERFACES →
+      Describes order (options_in b) (interface_in order b) i →
       frames ≡ [] → next ≡ record { order = now.order; interfaces = now.interfaces ++ i ∷ [] } →
       Does s order b kind frames next
   packet : (now : Section) (form : PacketForm) (frame : Frame) → kind ≡ kinds.Packet form →

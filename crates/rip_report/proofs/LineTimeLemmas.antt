@@ -1,6 +1,6 @@
 -- The times in front of the lines of a log.
-use Rattle.std.proofs.Common.{◌≡◌, ◌+◌, ◌*◌, ◌/◌, ◌<◌, ◌≤◌, ◌∙◌, ℕ, List, [], ◌∷◌, ◌++◌, Option, Some, None, Bool, true, Ok, ap, arith, refl, sym}
-use Rattle.rip_log.specs.Times.{IsSecondText, micros_of, second_text}
+use Rattle.std.proofs.Common.{◌≡◌, ◌/◌, ◌∙◌, ℕ, List, [], ◌∷◌, ◌++◌, Option, Some, None, Bool, true, Ok, ap, arith, refl, sym}
+use Rattle.rip_log.specs.Times.{IsSecondText, second_text}
 use Rattle.rip_capture.specs.Pcap.{Frame}
 use Rattle.rip_log.specs.declared.time.date_time.DateTime.{DateTime}
 use Rattle.rip_report.specs.LineTimes.{AreShown, FitsSpan, FindsTime, HasMicros, IsShown, IsTimed, noted_span, span_behind, span_with}

@@ -52,7 +52,8 @@ status_of log = log.status
 -- ---- a file
 
 -- a beginning of these bytes is a capture of these packets, or there are none
-pub data BeginsWith (how : Manner) (choice : Choice) (b : List ℕ) (carriers : List Carrier) : Type 0 where
+pub data BeginsWith (how : Manner) (choice : Choice) (b : List ℕ) (carriers : List Carrier)
+    : Type 0 where
   none : carriers ≡ [] → BeginsWith how choice b carriers
   some : (front rest : List ℕ) → b ≡ front ++ rest → IsCaptureOf how choice front carriers →
       BeginsWith how choice b carriers
@@ -67,7 +68,7 @@ pub record IsNextPacket (how : Manner) (choice : Choice) (front more : List ℕ)
   pub logged : IsLogged choice (first_behind None carriers) next.frame next.carried next.logged
 
 -- a file is refused behind these packets, of a log of so many lines: by its first fault, where
--- the line of the next packet has no time, or where that line, or the comment, would be one too many
+-- the line of the next packet lacks its time, or that line, or the comment, would be one too many
 pub data IsRefusedAt (how : Manner) (choice : Choice) (lines : ℕ) (b : List ℕ)
     (carriers : List Carrier) (code : RefusalCode) (at : ℕ) : Type 0 where
   fault : (fault : CaptureCode) → CaptureFault b (map (λ c. c.frame) carriers) fault at →
@@ -81,7 +82,8 @@ pub data IsRefusedAt (how : Manner) (choice : Choice) (lines : ℕ) (b : List �
       IsNextPacket how choice front more carriers next → b ≡ (front ++ more) ++ rest →
       LacksTime how next → lines + line_count carriers ≤ MOST_LINES →
       at ≡ length front → code ≡ Time → IsRefusedAt how choice lines b carriers code at
-  comment : IsCaptureOf how choice b carriers → lines + line_count carriers ≡ MOST_LINES → at ≡ length b →
+  comment : IsCaptureOf how choice b carriers → lines + line_count carriers ≡ MOST_LINES →
+      at ≡ length b →
       code ≡ TooManyLines → IsRefusedAt how choice lines b carriers code at
 
 -- what a log has of the file of this number, behind so many lines, and, where the file is whole,
@@ -249,8 +251,8 @@ pub record HasDatagrams (how : Manner) (file : File) (captures : List Captured)
   pub whole : AllByRecursion (λ c. is_whole c.logged ≡ true) carriers
   pub own : AllByRecursion (λ c. such is_datagram c.logged ≡ true →
       IsOwn file.part.choice (first_behind None carriers) c.frame) carriers
-  pub datagrams : captures
-      ≡ flat_map (λ c. datagram_in how.authentication file.part.link c.frame.bytes c.logged) carriers
+  pub datagrams : captures ≡ flat_map
+      (λ c. datagram_in how.authentication file.part.link c.frame.bytes c.logged) carriers
 
 -- the same of files, one after the other
 abbrev pub HaveDatagrams : Manner → List File → List Captured → Type 0
@@ -268,9 +270,11 @@ answer_so_far log (Ok status) = Ok (status_of log)
 answer_so_far log (Err e) = Err e
 
 -- a text was written of these files, with this answer so far: it ends a line; and where it is
--- without times, and no line of it is bad, the answer is Done, each file is a capture, and the records are just their datagrams
+-- without times, and no line of it is bad, the answer is Done, each file is a capture, and the
+-- records are just their datagrams
 pub record SaysFiles (how : Manner) (files : List File) (text : List ℕ)
     (answer : Result Status RunError) : Type 0 where
   pub ends : EndsLine text
-  pub says : how.times ≡ false → AllByRecursion IsFile files → (records : List Numbered) → LogText text records
+  pub says : how.times ≡ false → AllByRecursion IsFile files → (records : List Numbered) →
+      LogText text records
       → (answer ≡ Ok Done) × HaveDatagrams how files (map (λ r. r.capture) records)

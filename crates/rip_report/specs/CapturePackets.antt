@@ -1,5 +1,5 @@
 -- What the parts of a run leave that adds a file to a log.
-use Rattle.std.specs.Prelude.{◌≡◌, ◌≢◌, ◌⊎◌, ℕ, ◌+◌, ◌<◌, ◌≤◌, ◌++◌, ◌∷◌, [], ◌==◌, if◌then◌else◌, Bool, true, false, List, length, map, codes, Option, Some, None, Result, Ok, Err}
+use Rattle.std.specs.Prelude.{◌≡◌, ◌≢◌, ◌⊎◌, ℕ, ◌+◌, ◌<◌, ◌≤◌, ◌++◌, ◌==◌, if◌then◌else◌, Bool, true, false, List, length, map, codes, Option, Some, None, Result, Ok, Err}
 use Rattle.rip_log.specs.declared.limits.TheConstants.{MOST_LINES}
 use Rattle.rip_log.specs.Wholes.{Went}
 use Rattle.rip_capture.specs.Codes.{is_read}
@@ -142,7 +142,7 @@ pub record LogsPackets {K R : Type 0} (taken : K → Taken) (failed : K → Bool
   pub went : Went given coming at_end (source_of old) (source_of new)
   pub unread : ending ≡ Unread → (broken (source_of new) ≡ true) ⊎ IsFar new
   pub marks : ending ≢ Unread → broken (source_of new) ≡ broken (source_of old)
-  -- where the sink fails, the reading ends at the packet whose line it failed at, or before the next
+  -- where the sink fails, the reading ends at the packet whose line it failed at, or before another
   pub stops : before.failed ≡ false → IsOnItsWay taken failed before.start before.text →
       after.failed ≡ true →
       (ending ≡ Unwritten) × FailsAtLast taken failed how part.link carriers before

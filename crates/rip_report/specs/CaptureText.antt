@@ -10,7 +10,7 @@ use Rattle.rip_capture.specs.declared.error.CaptureCode.TheVariants as capture
 use Rattle.rip_capture.specs.declared.packet.Carried.{Carried}
 use Rattle.rip_capture.specs.declared.packet.Carried.TheVariants.{Datagram, Cut, Fragment, Malformed, Long, Unknown, Elsewhere, Others}
 use Rattle.rip_report.specs.LeftOut.{count_part}
-use Rattle.rip_report.specs.LineTimes.{HasMicros, IsTimed, span_of, span_part, time_part}
+use Rattle.rip_report.specs.LineTimes.{HasMicros, IsTimed, span_part, time_part}
 use Rattle.rip_report.specs.Selections.{AreLogged, Carrier, Choice, IsCarrier}
 use Rattle.rip_log.specs.declared.time.date_time.DateTime.{DateTime}
 use Rattle.rip_report.specs.LoggedDatagrams.{logged_datagram, nothing_omitted, omitted_from}
@@ -165,9 +165,10 @@ counts_of how carriers = record {
   malformed = count_of is_malformed carriers;
   long = count_of is_long carriers;
   mixed = mixed_count carriers;
-  passwords = count_by (λ c. (omitted_of how.authentication c.frame.bytes c.logged).password) carriers;
-  without_authentication =
-      count_by (λ c. (omitted_of how.authentication c.frame.bytes c.logged).authentication) carriers;
+  passwords = count_by
+      (λ c. (omitted_of how.authentication c.frame.bytes c.logged).password) carriers;
+  without_authentication = count_by
+      (λ c. (omitted_of how.authentication c.frame.bytes c.logged).authentication) carriers;
   elsewhere = count_of is_elsewhere carriers;
   others = count_of is_other carriers;
 }

@@ -1,5 +1,5 @@
 -- The times in front of the lines of a log.
-use Rattle.std.specs.Prelude.{◌≡◌, ◌≤◌, ◌&&◌, ℕ, Bool, true, false, List, [], ◌∷◌, ◌++◌, codes, Option, Some, None, IfSome, Result, Ok, Err}
+use Rattle.std.specs.Prelude.{◌≡◌, ◌≤◌, ℕ, Bool, true, false, List, [], ◌∷◌, ◌++◌, codes, Option, Some, None, IfSome, Result, Ok, Err}
 use Rattle.rip_log.specs.Times.{IsDateTime, micros_of, second_text, time_text}
 use Rattle.rip_log.specs.declared.limits.TheConstants.{MOST_MICROS}
 use Rattle.rip_log.specs.declared.time.date_time.DateTime.{DateTime}

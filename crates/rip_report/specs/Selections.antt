@@ -89,7 +89,8 @@ Belongs (Of name vlans) first p carried =
 -- it comes from elsewhere than that one; or nothing
 pub data IsLogged (choice : Choice) (first : Option Frame) (p : Frame) (carried : Carried)
     (logged : Logged) : Type 0 where
-  own : Belongs choice first p carried → logged ≡ As carried → IsLogged choice first p carried logged
+  own : Belongs choice first p carried → logged ≡ As carried →
+      IsLogged choice first p carried logged
   mixed : (sender : ℕ) → choice ≡ OneOrigin → ¬ Belongs choice first p carried →
       sender_of carried ≡ Some sender → logged ≡ Mixed sender →
       IsLogged choice first p carried logged

@@ -232,14 +232,7 @@ pub fn run_log<R: Source, K: Sink>(
             let mut text = Out::new(out);
             let manner = log.manner;
             let lines = log.lines;
-            let ending = log_packets(
-                &mut reader,
-                part,
-                manner,
-                lines,
-                &mut first,
-                &mut text,
-            );
+            let ending = log_packets(&mut reader, part, manner, lines, &mut first, &mut text);
             let (out, answer) = close_file(log, part.link, ending, text);
             (reader.into_source(), out, answer)
         }

@@ -128,7 +128,8 @@ pub fn captured_logs()
     // The table of such a log, as the commands take it, is the join of just these datagrams.
     ensures joined { (how : Manner) (files : List File) (text : List ℕ)
         (answer : Result Status RunError) (n : Network) (s : State) → how.times ≡ false →
-        LogOf how files text answer → AllByRecursion IsFile files → IsTable n text s → (records : List Numbered)
+        LogOf how files text answer → AllByRecursion IsFile files → IsTable n text s →
+        (records : List Numbered)
         × HaveDatagrams how files (map (λ r. r.capture) records)
         × IsJoined n (new_state n) records s }
 {

@@ -28,9 +28,7 @@ mod texts;
 mod whatif;
 
 pub use audit::run_audit;
-pub use captures::{
-    Authentication, CaptureLog, FilePart, Manner, Selection, log_failure, run_log,
-};
+pub use captures::{Authentication, CaptureLog, FilePart, Manner, Selection, log_failure, run_log};
 pub use decode::run_decode;
 pub use expect::run_expect;
 pub use explain::run_explain;

@@ -1,5 +1,5 @@
 -- What stands behind the link of a word.
-use Rattle.std.proofs.Common.{◌≡◌, ◌≢◌, ◌^◌, ◌<◌, ◌≤◌, ◌++◌, ◌∷◌, ◌∙◌, ℕ, List, [], ◌⊎◌, Option, Some, None, Result, Bool, true, false, not, ap, ap₂, arith, decimal, get_or, inl, inr, refl, subst, suc, sym}
+use Rattle.std.proofs.Common.{◌≡◌, ◌≢◌, ◌^◌, ◌<◌, ◌++◌, ◌∷◌, ◌∙◌, ℕ, List, [], ◌⊎◌, Option, Some, None, Result, Bool, true, false, not, ap, ap₂, arith, decimal, get_or, inl, inr, refl, subst, suc, sym}
 use Rattle.std.specs.Int.{IsInRange}
 use Rattle.std.specs.List.{AllPass}
 use Rattle.std.specs.Option.{IfSome}

@@ -32,7 +32,7 @@ is_digit_or_dot b = (nat_le 48 b && nat_le b 57) || b == 46
 abbrev pub is_digits_and_dots : List ℕ → Bool
 is_digits_and_dots text = list_all is_digit_or_dot text
 
--- the name of an interface that a word may name: 1 to 64 bytes, no `@`, and not what VLANs look like
+-- the name of an interface that a word may name: 1 to 64 bytes, no `@`, and not like VLANs
 pub record IsInterfaceName (text : List ℕ) : Type 0 where
   pub some : 1 ≤ length text
   pub few : length text ≤ 64

@@ -158,8 +158,8 @@ where
         result.2 ≢ Err RunError.Write → (text : List ℕ)
         × Took (K.taken out) (K.taken result.1) text
         × LogOf manner files text result.2 }
-    // If it is without times, and no line of it is bad, each file is a capture, and it has just their
-    // datagrams.
+    // If it is without times, and no line of it is bad, each file is a capture, and it has just
+    // their datagrams.
     ensures says { manner.times ≡ false → (files : List File) →
         AreFilesOf (map (λ w. w.now) words.now) result.0.items files →
         AllByRecursion IsFile files → result.2 ≢ Err RunError.Write → (text : List ℕ)

@@ -90,7 +90,8 @@ fn on_log_with_anyway<'a>(
 
 /// The command that reads captures.
 fn log_command<'a>(alloc: Global) -> Result<Command<'a>, AllocError> {
-    let files = "The capture files, each named after its link, or LINK=FILE, or LINK@WHICH=FILE, where \
+    let files =
+        "The capture files, each named after its link, or LINK=FILE, or LINK@WHICH=FILE, where \
         WHICH is an interface, VLANs (5.103), or both with @ between; - is standard input";
     let without =
         "Print datagrams as they would be without their authentication, where it fits them";

@@ -74,7 +74,8 @@ fn part_of_file<'a>(
     which: Option<Which<'a>>,
     path: &'a str,
 ) -> Option<CaptureWord<'a>>
-    ensures named { IfSome result (λ w. (part_in w ≡ record { link = link.now; choice = choice_in which.entry })
+    ensures named { IfSome result (λ w.
+        (part_in w ≡ record { link = link.now; choice = choice_in which.entry })
         × (w.path.now ≡ path.now) × IsName link.now × (path.now ≢ [])) }
     ensures found { IsName link.now → path.now ≢ [] → IsSomeAnd result (λ w.
         (part_in w ≡ record { link = link.now; choice = choice_in which.entry })

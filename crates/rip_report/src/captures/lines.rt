@@ -265,12 +265,7 @@ fn push_others<K: Sink>(out: &mut Out<K>, counts: &PacketCounts)
 }
 
 /// Adds the comment behind the lines of a file.
-pub(crate) fn push_comment<K: Sink>(
-    out: &mut Out<K>,
-    number: u32,
-    link: &str,
-    tally: &Tally,
-)
+pub(crate) fn push_comment<K: Sink>(out: &mut Out<K>, number: u32, link: &str, tally: &Tally)
     requires { FitsSpan tally.now.span }
     ensures { (span : Option (DateTime × DateTime)) → AreShown tally.now.span span →
         Adds out.old out.new (comment_line number link.now tally.now.counts span) }

@@ -37,7 +37,8 @@ fn log_packet<K: Sink>(
     requires room { HasRoom tally.old.counts }
     requires lines { tally.old.lines ≤ MOST_LINES }
     requires short { length packet.now.bytes.now ≤ MOST_CAPTURED }
-    ensures { (seen : Option Frame) → Keeps (choice_of part.now.packets) seen (origin_in first.old) →
+    ensures { (seen : Option Frame) →
+        Keeps (choice_of part.now.packets) seen (origin_in first.old) →
         LogsPacket manner (part_of part.now) seen (frame_of packet.now)
         (origin_in first.new) tally.old tally.new out.old out.new result }
 {

@@ -1,4 +1,4 @@
-use Rattle.std.proofs.Common.{◌≡◌, ◌∙◌, ap, arith, decimal, None, Some, ℕ, subst, sym}
+use Rattle.std.proofs.Common.{◌≡◌, ◌∙◌, ap, arith, decimal, Some, subst, sym}
 use Rattle.ripaudit.proofs.WhichLemmas.{different, parsed_vlan, same_text}
 use Rattle.ripaudit.specs.Whiches.{IsVlanText}
 use Rattle.ripaudit.proofs.which.vlan_of.Goals as goal
@@ -21,7 +21,8 @@ returns-then-vlan-eq0 c vlan =
 
 pub returns : goal.returns
 returns c vlan =
-    let found : IsVlanText c.args.text.now vlan → c.in_ok-vlan.vlan ≡ vlan = λ is. cc (sym c.in_ok-vlan.was ∙ parsed_vlan vlan c.args.text.now c.parse.result c.ok.result is c.parse.ensures.value.0 c.ok.ensures.value) in
-    (λ e. let same : c.in_ok-vlan.vlan ≡ vlan = cc e in
-        subst (IsVlanText c.args.text.now) same (record { text_is = sym (same_text c.format.result.now c.args.text.now c.if-ne.ensures) ∙ c.format.ensures.text; some = omega (arith, c.if-vlan-eq0.false); few = c.if-vlan-gt-MOST_VLAN.false }),
-    λ is. ap Some (found is))
+    let found : IsVlanText c.args.text.now vlan → c.in_ok-vlan.vlan ≡ vlan = λ is. cc (sym c.in_ok-vlan.was ∙ parsed_vlan vlan c.args.text.now c.parse.result c.ok.result is c.parse.ensures.value.0 c.ok.ensures.value) in (
+      λ e. let same : c.in_ok-vlan.vlan ≡ vlan = cc e in
+          subst (IsVlanText c.args.text.now) same (record { text_is = sym (same_text c.format.result.now c.args.text.now c.if-ne.ensures) ∙ c.format.ensures.text; some = omega (arith, c.if-vlan-eq0.false); few = c.if-vlan-gt-MOST_VLAN.false }),
+      λ is. ap Some (found is),
+    )

@@ -1,6 +1,6 @@
-use Rattle.std.proofs.Common.{◌≡◌, ◌∙◌, ◌++◌, ◌∷◌, [], ℕ, List, None, Some, rules, ap, append_assoc, arith, length, refl, subst, sym}
+use Rattle.std.proofs.Common.{◌≡◌, ◌∙◌, ◌++◌, ◌∷◌, [], None, Some, rules, ap, append_assoc, arith, refl, subst, sym}
 use Rattle.std.proofs.lemmas.Str.Pattern.{split_parts}
-use Rattle.ripaudit.specs.Whiches.{AreVlanTexts, IsVlanText, last, more}
+use Rattle.ripaudit.specs.Whiches.{AreVlanTexts, last, more}
 use Rattle.ripaudit.proofs.CaptureWordLemmas.{lacks}
 use Rattle.ripaudit.proofs.WhichLemmas.{first_vlan, last_vlan}
 use Rattle.ripaudit.proofs.which.vlans_of.Goals as goal
@@ -40,14 +40,16 @@ pub numbers-preserved : goal.numbers-preserved
 numbers-preserved c =
     let parts = split_parts 46 c.numbers.rest.now (Some (c.in-Some.number, c.in-Some.more)) c.in-Some.ensures.cases (omega arith) in
     let number = c.in_ok-vlan_of-2.field-0 in
-    let items = c.numbers.vlans.items in
-    (search rules, record {
-      sound = λ others h. subst (AreVlanTexts c.args.text.now) (sym (append_assoc items (number ∷ []) others) ∙ ap (λ l. l ++ others) (sym c.push-in-numbers.ensures.items))
-          (c.numbers.invariant.1.sound (number ∷ others)
-          (more c.numbers.rest.now (number ∷ others) c.in-Some.number.now c.in-Some.more.now others number parts.0 ((c.vlan_of-in-numbers.ensures number).0 c.in_ok-vlan_of-2.was) h refl));
-      whole = λ all are.
-          let (others, e, rest) = c.numbers.invariant.1.whole all are in
-          let (vlan, later, is, more_are, one) = first_vlan c.numbers.rest.now c.in-Some.number.now c.in-Some.more.now others parts.0 (lacks 46 _ parts.1) rest in
-          let same : number ≡ vlan = cc (sym c.in_ok-vlan_of-2.was ∙ (c.vlan_of-in-numbers.ensures vlan).1 is) in
-          (later, e ∙ ap (λ l. items ++ l) one ∙ ap (λ v. items ++ v ∷ later) (sym same) ∙ sym (append_assoc items (number ∷ []) later) ∙ ap (λ l. l ++ later) (sym c.push-in-numbers.ensures.items), more_are);
-    })
+    let items = c.numbers.vlans.items in (
+      search rules,
+      record {
+        sound = λ others h. subst (AreVlanTexts c.args.text.now) (sym (append_assoc items (number ∷ []) others) ∙ ap (λ l. l ++ others) (sym c.push-in-numbers.ensures.items))
+            (c.numbers.invariant.1.sound (number ∷ others)
+            (more c.numbers.rest.now (number ∷ others) c.in-Some.number.now c.in-Some.more.now others number parts.0 ((c.vlan_of-in-numbers.ensures number).0 c.in_ok-vlan_of-2.was) h refl));
+        whole = λ all are.
+            let (others, e, rest) = c.numbers.invariant.1.whole all are in
+            let (vlan, later, is, more_are, one) = first_vlan c.numbers.rest.now c.in-Some.number.now c.in-Some.more.now others parts.0 (lacks 46 _ parts.1) rest in
+            let same : number ≡ vlan = cc (sym c.in_ok-vlan_of-2.was ∙ (c.vlan_of-in-numbers.ensures vlan).1 is) in
+            (later, e ∙ ap (λ l. items ++ l) one ∙ ap (λ v. items ++ v ∷ later) (sym same) ∙ sym (append_assoc items (number ∷ []) later) ∙ ap (λ l. l ++ later) (sym c.push-in-numbers.ensures.items), more_are);
+      },
+    )

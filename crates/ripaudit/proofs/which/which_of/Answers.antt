@@ -1,4 +1,4 @@
-use Rattle.std.proofs.Common.{◌≡◌, ◌∙◌, [], ℕ, List, None, Some, ap, arith, inl, inr, refl, sym}
+use Rattle.std.proofs.Common.{◌∙◌, [], None, Some, ap, arith, inl, inr, refl, sym}
 use Rattle.std.proofs.lemmas.Bool.{false≢true}
 use Rattle.std.proofs.lemmas.Str.Pattern.{split_parts}
 use Rattle.rip_report.specs.Selections.{Of}

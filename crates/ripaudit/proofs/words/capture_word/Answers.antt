@@ -1,7 +1,7 @@
 use Rattle.std.proofs.Common.{List, ℕ, Some, None, arith, sym, subst, ◌≢◌, []}
 use Rattle.std.proofs.lemmas.Str.Pattern.{split_parts, split_after}
 use Rattle.rip_report.specs.Selections.{OneOrigin}
-use Rattle.ripaudit.specs.CaptureWords.{IsPartText, IsStem, both, file}
+use Rattle.ripaudit.specs.CaptureWords.{IsStem, both, file}
 use Rattle.ripaudit.specs.Texts.{Lacks}
 use Rattle.ripaudit.proofs.CaptureWordLemmas.{lacks, lacks_at, named_both, named_file, found_both, found_part, has_byte, has_name, one_file_name, one_stem}
 use Rattle.ripaudit.proofs.words.capture_word.Goals as goal

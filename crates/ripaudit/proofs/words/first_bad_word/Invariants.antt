@@ -1,4 +1,4 @@
-use Rattle.std.proofs.Common.{◌≡◌, List, [], ℕ, true, false, codes, map, ◌<◌, get_or}
+use Rattle.std.proofs.Common.{◌≡◌, [], ℕ, true, false, codes, map, ◌<◌, get_or}
 use Rattle.rip_report.specs.Selections.{Part}
 use Rattle.ripaudit.specs.CaptureWords.{IsCaptureWord, IsFineWord}
 use Rattle.ripaudit.proofs.words.first_bad_word.Given as goal

@@ -1,6 +1,6 @@
-use Rattle.std.proofs.Common.{◌≡◌, ◌∙◌, List, ℕ, None, Some, ap, arith, refl, sym}
+use Rattle.std.proofs.Common.{◌≡◌, ◌∙◌, None, Some, ap, arith, refl, sym}
 use Rattle.std.proofs.lemmas.Str.Pattern.{split_parts}
-use Rattle.rip_report.specs.Selections.{Choice, OneOrigin, Part}
+use Rattle.rip_report.specs.Selections.{Choice, OneOrigin}
 use Rattle.ripaudit.specs.CaptureWords.{link, which}
 use Rattle.ripaudit.specs.Whiches.{choice_in}
 use Rattle.ripaudit.proofs.CaptureWordLemmas.{found_part, lacks}

@@ -1,14 +1,12 @@
-use Rattle.std.proofs.Common.{◌≡◌, ◌∙◌, Bool, List, Err, None, Ok, Option, Result, Some, ap, arith, false, refl, subst, sym, true, ℕ}
+use Rattle.std.proofs.Common.{◌≡◌, ◌∙◌, Bool, List, Err, None, ap, arith, refl, subst, sym, ℕ}
 use Rattle.rip_capture.specs.NextCall.{frame_of}
-use Rattle.rip_capture.specs.Pcap.{Frame}
 use Rattle.rip_report.specs.CapturePackets.{LogsSo}
-use Rattle.rip_report.specs.CaptureText.{HasTime, counted, has_line, is_timed, one}
-use Rattle.rip_report.specs.LineTimes.{FindsTime, HasMicros, IsShown, IsTimed, noted_span}
+use Rattle.rip_report.specs.CaptureText.{counted, has_line, is_timed, one}
+use Rattle.rip_report.specs.LineTimes.{FindsTime, IsTimed, noted_span}
 use Rattle.rip_report.specs.Outs.{Progress}
 use Rattle.rip_report.specs.Selections.{Carrier}
 use Rattle.rip_report.specs.declared.captures.ending.RefusalCode.{RefusalCode}
 use Rattle.rip_report.specs.declared.captures.ending.RefusalCode.TheVariants.{Capture, Time, TooManyLines}
-use Rattle.rip_report.specs.declared.captures.logged.Logged.{Logged}
 use Rattle.rip_report.specs.declared.captures.manner.Manner.{Manner}
 use Rattle.rip_report.specs.declared.captures.tally.Tally.{Tally}
 use Rattle.rip_report.proofs.OutLemmas.{adds_then}
@@ -44,11 +42,14 @@ returns-then-tally-ge-MOST_LINES g c = λ seen keeps.
       carries = c.read_frame-carried.ensures.carries;
       logged = both.0;
       keeps = both.1;
-      logs = (record { tally = refl; text = refl }, record {
-        line = sym c.has_line.ensures ∙ c.if-has_line.true;
-        many = omega (arith, c.requires.lines, c.if-tally-ge-MOST_LINES.true);
-        time = λ asked. found-time c.is_timed.result (frame_of c.args.packet.now) c.in-Ok.time (c.is_timed.ensures ∙ asked) c.in-Ok.ensures;
-      });
+      logs = (
+        record { tally = refl; text = refl },
+        record {
+          line = sym c.has_line.ensures ∙ c.if-has_line.true;
+          many = omega (arith, c.requires.lines, c.if-tally-ge-MOST_LINES.true);
+          time = λ asked. found-time c.is_timed.result (frame_of c.args.packet.now) c.in-Ok.time (c.is_timed.ensures ∙ asked) c.in-Ok.ensures;
+        },
+      );
     }
 
 pub push_line-omitted-requires : goal.push_line-omitted-requires

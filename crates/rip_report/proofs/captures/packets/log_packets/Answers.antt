@@ -128,7 +128,7 @@ returns-in-Err-log_packet g c =
     let goes : TakesPacket S.given before (map (λ c. c.frame) inv.carriers) p.frame (place_of packet) now =
     subst (λ (f : Frame). TakesPacket S.given before (map (λ c. c.frame) inv.carriers) f (place_of packet) now) (sym did.frame_is) (runs.goes before inv.taken (map (λ c. c.frame) inv.carriers) inv.stands) in
     let logs : LogsSo c.args.manner c.args.part.now.link.now p c.packets.tally c.log_packet.new.tally c.send_before_wait.new.out c.log_packet.new.out (Err c.in-Err-log_packet.code) =
-        subst (LogsSo c.args.manner c.args.part.now.link.now p c.packets.tally c.log_packet.new.tally c.send_before_wait.new.out c.log_packet.new.out) c.in-Err-log_packet.is did.logs in
+    subst (LogsSo c.args.manner c.args.part.now.link.now p c.packets.tally c.log_packet.new.tally c.send_before_wait.new.out c.log_packet.new.out) c.in-Err-log_packet.is did.logs in
     let (same, ends) = not-logged S.given S.at_end c.args.manner (choice_of c.args.part.now.packets) c.args.part.now.link.now before c.args.lines inv.carriers p c.in-Err-log_packet.code (place_of packet)
     c.packets.tally c.log_packet.new.tally c.send_before_wait.new.out c.log_packet.new.out now logs did.carries did.logged goes inv.lines in
     record {

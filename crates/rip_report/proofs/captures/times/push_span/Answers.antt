@@ -1,5 +1,5 @@
-use Rattle.std.proofs.Common.{◌≡◌, ◌∙◌, ◌++◌, ◌/◌, List, ℕ, ap₂, codes}
-use Rattle.rip_report.specs.LineTimes.{AreShown, span_part}
+use Rattle.std.proofs.Common.{◌++◌, ◌/◌, List, ℕ, ap₂, codes}
+use Rattle.rip_report.specs.LineTimes.{span_part}
 use Rattle.rip_log.specs.Times.{second_text}
 use Rattle.rip_report.proofs.LineTimeLemmas.{second-shown}
 use Rattle.rip_report.proofs.OutLemmas.{adds_same, adds_then}
