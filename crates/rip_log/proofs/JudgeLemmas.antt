@@ -1,12 +1,12 @@
 -- A line and the line without its carriage return.
-use Rattle.std.proofs.Common.{◌≡◌, ◌+◌, ◌-◌, ◌≤◌, ◌<◌, ℕ, List, [], ◌∷◌, length, take, drop, slice_range, Option, Some, None, Result, Ok, Err, IfSome, is_err, refl, sym, ap, ◌∙◌, arith, Bool, true, false, cond}
+use Rattle.std.proofs.Common.{◌≡◌, ◌+◌, ◌-◌, ◌≤◌, ◌<◌, ℕ, List, [], ◌∷◌, length, take, drop, slice_range, Option, Some, None, Result, Ok, Err, IfSome, refl, sym, ap, ◌∙◌, arith, Bool, true, false, cond}
 use Rattle.std.proofs.lemmas.List.{take-take, drop-take, length-take, take_all}
 use Rattle.std.specs.Io.BufRead.{strip_last, ends_with_byte}
 use Rattle.rip_wire.specs.Name.{is_name}
 use Rattle.rip_log.specs.Fields.{fields_of, is_comment}
 use Rattle.rip_log.specs.Lines.{Capture, judge, judge_short, three_fields, unless_skipped}
 use Rattle.rip_log.specs.Said.{Origin, origin_by, origin_of}
-use Rattle.rip_log.specs.Parts.{IsSaid, IsFront, AreParts, capture_of_parts, origin_at}
+use Rattle.rip_log.specs.Parts.{AreThreeSaid, IsSaid, IsFront, AreParts, capture_of_parts, origin_at}
 use Rattle.rip_log.specs.declared.error.LogCode.{LogCode}
 use Rattle.rip_log.specs.declared.error.LogCode.TheVariants.{LongLine}
 use Rattle.rip_log.specs.Spans.{slice_of}
@@ -64,19 +64,29 @@ front-origin line front m (Some f) fits is at =
       origin : List ℕ → ℕ → Origin
       origin l a = record { link = l; sender = a }
 
+-- what is said of a line without its carriage return is said of the line
+pub three-line : (said : Result (Option Capture) LogCode) (from : LogCode → Option Origin) (line room : List ℕ) (r : Result Parts Fault)
+    → AreThreeSaid said from (strip_last 13 line) room r → AreThreeSaid said from line room r
+unfolding Front
+three-line said from line room (Ok p) h =
+    let front = front-of (ends_with_byte 13 line) line in
+    let moved = parts-front line (strip_last 13 line) room front.0 p front.1 front.2 h.1 in
+    let said_of : Capture → Result (Option Capture) LogCode = λ e. Ok (Some e) in
+    (h.0 ∙ ap said_of moved.0, moved.1)
+three-line said from line room (Err fault) h =
+    let front = front-of (ends_with_byte 13 line) line in
+    let moved = front-origin line (strip_last 13 line) front.0 fault.front front.1 front.2 h.front in
+    record { code = h.code; origin = h.origin ∙ moved.0; front = moved.1 }
+
 pub IsSaid-line : (line room : List ℕ) (r : Result (Option Parts) Fault) → length line ≤ 2048
     → IsSaid (unless_skipped (fields_of (strip_last 13 line))) (origin_by (fields_of (strip_last 13 line))) (strip_last 13 line) room r → IsSaid (judge line) (origin_of line) line room r
-unfolding Front
 IsSaid-line line room (Ok None) h said = judge-short line h ∙ said
 IsSaid-line line room (Ok (Some p)) h said =
-    let front = front-of (ends_with_byte 13 line) line in
-    let moved = parts-front line (strip_last 13 line) room front.0 p front.1 front.2 said.1 in
-    let said_of : Capture → Result (Option Capture) LogCode = λ e. Ok (Some e) in
-    (judge-short line h ∙ said.0 ∙ ap said_of moved.0, moved.1)
+    let moved = three-line (judge_short line) (origin_of line) line room (Ok p) said in
+    (judge-short line h ∙ moved.0, moved.1)
 IsSaid-line line room (Err fault) h said =
-    let front = front-of (ends_with_byte 13 line) line in
-    let moved = front-origin line (strip_last 13 line) front.0 fault.front front.1 front.2 said.front in
-    record { code = judge-short line h ∙ said.code; origin = said.origin ∙ moved.0; front = moved.1 }
+    let moved = three-line (judge_short line) (origin_of line) line room (Err fault) said in
+    record { code = judge-short line h ∙ moved.code; origin = moved.origin; front = moved.front }
 
 -- what is said of three fields is said of a line that has them and is no comment
 pub three-said : (fields : List (List ℕ)) (a b c line room : List ℕ) (r : Result (Option Parts) Fault) → fields ≡ a ∷ b ∷ c ∷ [] → is_comment fields ≡ false
@@ -86,8 +96,6 @@ three-said fields a b c line room r is plain said =
     rw is (rw none said)
 
 -- what ends a line that is good is one field
-pub good-said : (link sender s line room : List ℕ) (from : LogCode → Option Origin) (r : Result (Option Parts) Fault) → is_err r ≡ false → 0 < length s
-    → IsSaid (three_fields link sender s) from line room r → fields_of s ≡ s ∷ []
-good-said link sender s line room from (Ok None) good some said = good-field link sender s None some said
-good-said link sender s line room from (Ok (Some parts)) good some said = good-field link sender s _ some said.0
-good-said link sender s line room from (Err fault) good some said = absurd (cc good)
+pub good-said : (link sender s line room : List ℕ) (from : LogCode → Option Origin) (parts : Parts) → 0 < length s
+    → AreThreeSaid (three_fields link sender s) from line room (Ok parts) → fields_of s ≡ s ∷ []
+good-said link sender s line room from parts some said = good-field link sender s _ some said.0

@@ -13,7 +13,7 @@ use Rattle.rip_wire.specs.declared.error.WireCode.{WireCode}
 use Rattle.rip_log.proofs.FieldRelations.{AreFields-fields_of, fields_of-AreFields, IsBare-strip_last, strip_last-IsBare}
 use Rattle.rip_log.specs.Fields.{fields_of, is_comment}
 use Rattle.rip_log.specs.Lines.{Capture, sized, bytes_of, checked, capture_in, with_sender, three_fields, said_by, unless_skipped, judge_short, judge}
-use Rattle.rip_log.specs.LogText.{HasFields, SaysNothing, HasThree, IsSender, HasSender, HasOthers, IsBad, IsLineJudged}
+use Rattle.rip_log.specs.LogText.{AreThreeJudged, BadBy, HasFields, SaysNothing, HasThree, IsSender, HasOthers, IsBad, IsLineJudged, SenderBy}
 use Rattle.rip_log.proofs.DigitLemmas.{sized-long}
 use Rattle.rip_log.proofs.JudgeLemmas.{judge-long, judge-short}
 use Rattle.rip_log.specs.declared.error.LogCode.{LogCode}
@@ -25,8 +25,12 @@ pub record WireLaws : Type 0 where
   pub addresses : (text : List ℕ) (a : ℕ) → (address_in text ≡ Some a) ↔ ((a < 2 ^ 32) × (text ≡ address_text a))
   pub faults : (b : List ℕ) (code : WireCode) (at : ℕ) → (message_in b ≡ Err (record { code = code; at = at })) ↔ WireFault b code at
 
+-- which three fields there are
+abbrev pub Fielding : Type 1
+Fielding = List ℕ → List ℕ → List ℕ → Type 0
+
 -- the fields that are computed are those of the line
-HasFields-line : (line : List ℕ) → length line ≤ 2048 → HasFields line (fields_of (strip_last 13 line))
+pub HasFields-line : (line : List ℕ) → length line ≤ 2048 → HasFields line (fields_of (strip_last 13 line))
 HasFields-line line short = record {
   short = short;
   bare = strip_last 13 line;
@@ -38,10 +42,10 @@ pub fields-same : (line : List ℕ) (fields : List (List ℕ)) → HasFields lin
 fields-same line fields has = ap fields_of (strip_last-IsBare line has.bare has.is_bare) ∙ fields_of-AreFields has.bare fields has.are_fields
 
 -- the test of a comment
-says-no : (first : List ℕ) (rest : List (List ℕ)) → is_comment (first ∷ rest) ≡ false → ¬ SaysNothing (first ∷ rest)
+pub says-no : (first : List ℕ) (rest : List (List ℕ)) → is_comment (first ∷ rest) ≡ false → ¬ SaysNothing (first ∷ rest)
 says-no first rest h says = cc (h, ap (λ (l : List ℕ). is_comment (l ∷ rest)) says.1)
 
-says-yes : (first : List ℕ) (rest : List (List ℕ)) → is_comment (first ∷ rest) ≡ true → SaysNothing (first ∷ rest)
+pub says-yes : (first : List ℕ) (rest : List (List ℕ)) → is_comment (first ∷ rest) ≡ true → SaysNothing (first ∷ rest)
 says-yes [] rest h = absurd (cc h)
 says-yes (b ∷ first) rest h = (first, ap (λ (k : ℕ). k ∷ first) (eqb-true b 35 h))
 
@@ -94,47 +98,67 @@ sized-bad (Err f) none = refl
 sized-few : (bytes : List ℕ) → length bytes ≤ 504 → sized (Ok bytes) ≡ Ok bytes
 sized-few bytes h = grind arith
 
+-- what three fields are judged to be is what their line is
+judged-three : (line : List ℕ) (r : Result (Option Capture) LogCode) → AreThreeJudged (HasThree line) r → IsLineJudged line r
+judged-three line (Ok None) judged = absurd judged
+judged-three line (Ok (Some capture)) judged = judged
+judged-three line (Err codes.LinkName) judged = judged
+judged-three line (Err codes.Sender) judged = judged
+judged-three line (Err codes.Hex) judged = judged
+judged-three line (Err codes.LongDatagram) judged = judged
+judged-three line (Err (codes.Wire e)) judged = judged
+judged-three line (Err codes.LongLine) judged = absurd judged
+judged-three line (Err codes.Fields) judged = absurd judged
+judged-three line (Err codes.TooManyLines) judged = absurd judged
+judged-three line (Err codes.Read) judged = absurd judged
+judged-three line (Err codes.Ended) judged = absurd judged
+judged-three line (Err codes.Memory) judged = absurd judged
+
 module _ (laws : WireLaws) where
   -- from the computed to the words
   no_fault : (bytes : List ℕ) (m : Message) → message_in bytes ≡ Ok m → (code : WireCode) (at : ℕ) → ¬ WireFault bytes code at
   no_fault bytes m e code at fault = cc (e, (laws.faults bytes code at).1 fault)
 
-  says-checked : (line link digits bytes : List ℕ) (sender : ℕ) (r : Result Message WireError) → HasSender line link digits sender → decode_of digits ≡ Ok bytes → length bytes ≤ 504 →
+  says-checked : (Has : Fielding) (link digits bytes : List ℕ) (sender : ℕ) (r : Result Message WireError) → SenderBy Has link digits sender → decode_of digits ≡ Ok bytes → length bytes ≤ 504 →
       message_in bytes ≡ r
-      → IsLineJudged line (checked link sender bytes r)
-  says-checked line link digits bytes sender (Ok m) front e few read = record { digits = digits; front = front; bytes = e; few = few; no_fault = no_fault bytes m read }
-  says-checked line link digits bytes sender (Err f) front e few read = (link, digits, bytes, sender, front, e, few, (laws.faults bytes f.code f.at).0 read)
+      → AreThreeJudged Has (checked link sender bytes r)
+  says-checked Has link digits bytes sender (Ok m) front e few read = record { digits = digits; front = front; bytes = e; few = few; no_fault = no_fault bytes m read }
+  says-checked Has link digits bytes sender (Err f) front e few read = (link, digits, bytes, sender, front, e, few, (laws.faults bytes f.code f.at).0 read)
 
-  says-sized : (line link digits bytes : List ℕ) (sender : ℕ) (x : Bool) → HasSender line link digits sender → decode_of digits ≡ Ok bytes → nat_lt 504 (length bytes) ≡ x
-      → IsLineJudged line (capture_in link sender (cond x (Err codes.LongDatagram) (Ok bytes)))
-  says-sized line link digits bytes sender true front e h = (link, digits, bytes, sender, front, e, many-of bytes h)
-  says-sized line link digits bytes sender false front e h = says-checked line link digits bytes sender (message_in bytes) front e (few-of bytes h) refl
+  says-sized : (Has : Fielding) (link digits bytes : List ℕ) (sender : ℕ) (x : Bool) → SenderBy Has link digits sender → decode_of digits ≡ Ok bytes → nat_lt 504 (length bytes) ≡ x
+      → AreThreeJudged Has (capture_in link sender (cond x (Err codes.LongDatagram) (Ok bytes)))
+  says-sized Has link digits bytes sender true front e h = (link, digits, bytes, sender, front, e, many-of bytes h)
+  says-sized Has link digits bytes sender false front e h = says-checked Has link digits bytes sender (message_in bytes) front e (few-of bytes h) refl
 
-  says-digits : (line link digits : List ℕ) (sender : ℕ) (r : Result (List ℕ) FromHexError) → HasSender line link digits sender → decode_of digits ≡ r →
-      IsLineJudged line (capture_in link sender (sized r))
-  says-digits line link digits sender (Ok bytes) front e = says-sized line link digits bytes sender (nat_lt 504 (length bytes)) front e refl
-  says-digits line link digits sender (Err f) front e = (link, digits, sender, front, λ bytes is. cc (e, is))
+  says-digits : (Has : Fielding) (link digits : List ℕ) (sender : ℕ) (r : Result (List ℕ) FromHexError) → SenderBy Has link digits sender → decode_of digits ≡ r →
+      AreThreeJudged Has (capture_in link sender (sized r))
+  says-digits Has link digits sender (Ok bytes) front e = says-sized Has link digits bytes sender (nat_lt 504 (length bytes)) front e refl
+  says-digits Has link digits sender (Err f) front e = (link, digits, sender, front, λ bytes is. cc (e, is))
 
-  says-sender : (line link sender digits : List ℕ) (o : Option ℕ) → HasThree line link sender digits → IsName link → address_in sender ≡ o → IsLineJudged line (with_sender link o digits)
-  says-sender line link sender digits None three name e =
+  says-sender : (Has : Fielding) (link sender digits : List ℕ) (o : Option ℕ) → Has link sender digits → IsName link → address_in sender ≡ o → AreThreeJudged Has (with_sender link o digits)
+  says-sender Has link sender digits None three name e =
       (link, sender, digits, three, name, λ address is. cc (e, (laws.addresses sender address).1 (is.fits, is.spelled)))
-  says-sender line link sender digits (Some a) three name e =
+  says-sender Has link sender digits (Some a) three name e =
       let found = (laws.addresses sender a).0 e in
-      says-digits line link digits a (decode_of digits) (record { sender = sender; three = three; name = name; is_sender = record { fits = found.0; spelled = found.1 } }) refl
+      says-digits Has link digits a (decode_of digits) (record { sender = sender; three = three; name = name; is_sender = record { fits = found.0; spelled = found.1 } }) refl
 
   no-name : (link : List ℕ) → is_name link ≡ false → ¬ IsName link
   no-name link e is = cc (e, (laws.names link).1 is)
 
-  says-three : (line link sender digits : List ℕ) (x : Bool) → HasThree line link sender digits → is_name link ≡ x
-      → IsLineJudged line (cond x (with_sender link (address_in sender) digits) (Err codes.LinkName))
-  says-three line link sender digits true three e = says-sender line link sender digits (address_in sender) three ((laws.names link).0 e) refl
-  says-three line link sender digits false three e = (link, sender, digits, three, no-name link e)
+  says-named : (Has : Fielding) (link sender digits : List ℕ) (x : Bool) → Has link sender digits → is_name link ≡ x
+      → AreThreeJudged Has (cond x (with_sender link (address_in sender) digits) (Err codes.LinkName))
+  says-named Has link sender digits true three e = says-sender Has link sender digits (address_in sender) three ((laws.names link).0 e) refl
+  says-named Has link sender digits false three e = (link, sender, digits, three, no-name link e)
+
+  -- three fields are what is computed of them
+  pub says-three : (Has : Fielding) (link sender digits : List ℕ) → Has link sender digits → AreThreeJudged Has (three_fields link sender digits)
+  says-three Has link sender digits three = says-named Has link sender digits (is_name link) three refl
 
   says-said : (line : List ℕ) (fields : List (List ℕ)) → HasFields line fields → ¬ SaysNothing fields → IsLineJudged line (said_by fields)
   says-said line [] has says = absurd (says tt)
   says-said line (a ∷ []) has says = others line (a ∷ []) has says (λ e. omega (arith, e))
   says-said line (a ∷ b ∷ []) has says = others line (a ∷ b ∷ []) has says (λ e. omega (arith, e))
-  says-said line (a ∷ b ∷ c ∷ []) has says = says-three line a b c (is_name a) (record { has_fields = has; says = says }) refl
+  says-said line (a ∷ b ∷ c ∷ []) has says = judged-three line (three_fields a b c) (says-three (HasThree line) a b c (record { has_fields = has; says = says }))
   says-said line (a ∷ b ∷ c ∷ d ∷ more) has says = others line (a ∷ b ∷ c ∷ d ∷ more) has says (λ e. omega (arith, e))
 
   says-comment : (line first : List ℕ) (rest : List (List ℕ)) (x : Bool) → HasFields line (first ∷ rest) → is_comment (first ∷ rest) ≡ x → IsLineJudged line (cond x (Ok None) (said_by (first ∷ rest)))
@@ -169,35 +193,56 @@ module _ (laws : WireLaws) where
   three-named : (link sender digits : List ℕ) → IsName link → three_fields link sender digits ≡ with_sender link (address_in sender) digits
   three-named link sender digits name = ap (λ (x : Bool). cond x (with_sender link (address_in sender) digits) (Err codes.LinkName)) ((laws.names link).1 name)
 
-  judge-sender : (line link digits : List ℕ) (address : ℕ) → HasSender line link digits address → judge line ≡ capture_in link address (bytes_of digits)
-  judge-sender line link digits address front =
-      judge-three line link front.sender digits front.three
-      ∙ three-named link front.sender digits front.name
-      ∙ ap (λ (o : Option ℕ). with_sender link o digits) ((laws.addresses front.sender address).1 (front.is_sender.fits, front.is_sender.spelled))
-
   checked-none : (link bytes : List ℕ) (sender : ℕ) (r : Result Message WireError) → message_in bytes ≡ r → ((code : WireCode) (at : ℕ) → ¬ WireFault bytes code at)
       → checked link sender bytes r ≡ Ok (Some (record { link = link; sender = sender; datagram = bytes }))
   checked-none link bytes sender (Ok m) e none = refl
   checked-none link bytes sender (Err f) e none = absurd (none f.code f.at ((laws.faults bytes f.code f.at).0 e))
 
-  judge-bytes : (line link digits bytes : List ℕ) (address : ℕ) → HasSender line link digits address → decode_of digits ≡ Ok bytes → length bytes ≤ 504 →
-      judge line ≡ checked link address bytes (message_in bytes)
-  judge-bytes line link digits bytes address front e few =
-      judge-sender line link digits address front ∙ ap (capture_in link address) (ap sized e ∙ sized-few bytes few)
+  -- what is computed, where it is what the three fields say
+  module _ (Has : Fielding) (judged : Result (Option Capture) LogCode) (reads : (link sender digits : List ℕ) → Has link sender digits → judged ≡ three_fields link sender digits) where
+    by-sender : (link digits : List ℕ) (address : ℕ) → SenderBy Has link digits address → judged ≡ capture_in link address (bytes_of digits)
+    by-sender link digits address front =
+        reads link front.sender digits front.three
+        ∙ three-named link front.sender digits front.name
+        ∙ ap (λ (o : Option ℕ). with_sender link o digits) ((laws.addresses front.sender address).1 (front.is_sender.fits, front.is_sender.spelled))
+
+    by-bytes : (link digits bytes : List ℕ) (address : ℕ) → SenderBy Has link digits address → decode_of digits ≡ Ok bytes → length bytes ≤ 504 →
+        judged ≡ checked link address bytes (message_in bytes)
+    by-bytes link digits bytes address front e few = by-sender link digits address front ∙ ap (capture_in link address) (ap sized e ∙ sized-few bytes few)
+
+    bad-by : (code : LogCode) → BadBy Has code → judged ≡ Err code
+    bad-by codes.LinkName bad =
+        reads bad.0 bad.1 bad.2 bad.3
+        ∙ ap (λ (x : Bool). cond x (with_sender bad.0 (address_in bad.1) bad.2) (Err codes.LinkName)) (name-no bad.0 (is_name bad.0) refl bad.4)
+    bad-by codes.Sender bad =
+        reads bad.0 bad.1 bad.2 bad.3
+        ∙ three-named bad.0 bad.1 bad.2 bad.4
+        ∙ ap (λ (o : Option ℕ). with_sender bad.0 o bad.2) (address-no bad.1 (address_in bad.1) refl bad.5)
+    bad-by codes.Hex bad = by-sender bad.0 bad.1 bad.2 bad.3 ∙ ap (capture_in bad.0 bad.2) (sized-bad (decode_of bad.1) bad.4)
+    bad-by codes.LongDatagram bad = by-sender bad.0 bad.1 bad.3 bad.4 ∙ ap (capture_in bad.0 bad.3) (ap sized bad.5 ∙ sized-long bad.2 bad.6)
+    bad-by (codes.Wire f) bad = by-bytes bad.0 bad.1 bad.2 bad.3 bad.4 bad.5 bad.6 ∙ ap (checked bad.0 bad.3 bad.2) ((laws.faults bad.2 f.code f.at).1 bad.7)
+    bad-by codes.LongLine bad = absurd bad
+    bad-by codes.Fields bad = absurd bad
+    bad-by codes.TooManyLines bad = absurd bad
+    bad-by codes.Read bad = absurd bad
+    bad-by codes.Ended bad = absurd bad
+    bad-by codes.Memory bad = absurd bad
+
+    pub three-judged : (r : Result (Option Capture) LogCode) → AreThreeJudged Has r → judged ≡ r
+    three-judged (Ok None) h = absurd h
+    three-judged (Ok (Some capture)) is =
+        by-bytes capture.link is.digits capture.datagram capture.sender is.front is.bytes is.few
+        ∙ checked-none capture.link capture.datagram capture.sender (message_in capture.datagram) refl is.no_fault
+    three-judged (Err code) bad = bad-by code bad
 
   bad-line : (line : List ℕ) (code : LogCode) → IsBad line code → judge line ≡ Err code
   bad-line line codes.LongLine bad = judge-long line bad
   bad-line line codes.Fields bad = judge-fields line bad.fields bad.has_fields ∙ said-fields bad.fields bad.says ∙ said-others bad.fields bad.count
-  bad-line line codes.LinkName bad =
-      judge-three line bad.0 bad.1 bad.2 bad.3
-      ∙ ap (λ (x : Bool). cond x (with_sender bad.0 (address_in bad.1) bad.2) (Err codes.LinkName)) (name-no bad.0 (is_name bad.0) refl bad.4)
-  bad-line line codes.Sender bad =
-      judge-three line bad.0 bad.1 bad.2 bad.3
-      ∙ three-named bad.0 bad.1 bad.2 bad.4
-      ∙ ap (λ (o : Option ℕ). with_sender bad.0 o bad.2) (address-no bad.1 (address_in bad.1) refl bad.5)
-  bad-line line codes.Hex bad = judge-sender line bad.0 bad.1 bad.2 bad.3 ∙ ap (capture_in bad.0 bad.2) (sized-bad (decode_of bad.1) bad.4)
-  bad-line line codes.LongDatagram bad = judge-sender line bad.0 bad.1 bad.3 bad.4 ∙ ap (capture_in bad.0 bad.3) (ap sized bad.5 ∙ sized-long bad.2 bad.6)
-  bad-line line (codes.Wire f) bad = judge-bytes line bad.0 bad.1 bad.2 bad.3 bad.4 bad.5 bad.6 ∙ ap (checked bad.0 bad.3 bad.2) ((laws.faults bad.2 f.code f.at).1 bad.7)
+  bad-line line codes.LinkName bad = three-judged (HasThree line) (judge line) (judge-three line) (Err codes.LinkName) bad
+  bad-line line codes.Sender bad = three-judged (HasThree line) (judge line) (judge-three line) (Err codes.Sender) bad
+  bad-line line codes.Hex bad = three-judged (HasThree line) (judge line) (judge-three line) (Err codes.Hex) bad
+  bad-line line codes.LongDatagram bad = three-judged (HasThree line) (judge line) (judge-three line) (Err codes.LongDatagram) bad
+  bad-line line (codes.Wire f) bad = three-judged (HasThree line) (judge line) (judge-three line) (Err (codes.Wire f)) bad
   bad-line line codes.TooManyLines bad = absurd bad
   bad-line line codes.Read bad = absurd bad
   bad-line line codes.Ended bad = absurd bad
@@ -205,7 +250,5 @@ module _ (laws : WireLaws) where
 
   pub judge-IsLineJudged : (line : List ℕ) (r : Result (Option Capture) LogCode) → IsLineJudged line r → judge line ≡ r
   judge-IsLineJudged line (Ok None) skipped = judge-fields line skipped.fields skipped.has_fields ∙ skipped-fields skipped.fields skipped.says_nothing
-  judge-IsLineJudged line (Ok (Some capture)) is =
-      judge-bytes line capture.link is.digits capture.datagram capture.sender is.front is.bytes is.few
-      ∙ checked-none capture.link capture.datagram capture.sender (message_in capture.datagram) refl is.no_fault
+  judge-IsLineJudged line (Ok (Some capture)) is = three-judged (HasThree line) (judge line) (judge-three line) (Ok (Some capture)) is
   judge-IsLineJudged line (Err code) bad = bad-line line code bad

@@ -27,3 +27,5 @@ pub mod AdvanceLemmas
 pub mod TwoTextLemmas
 pub mod CalendarLemmas
 pub mod TimeLemmas
+pub mod TimedLemmas
+pub mod TimedRelations

@@ -45,6 +45,15 @@ pub record IsTrimmed (bytes : List ℕ) : Type 0 where
   pub first : is_blank (slice_index bytes 0) ≡ false
   pub last : is_blank (slice_index bytes (length bytes - 1)) ≡ false
 
+-- the first two of these fields lie so in the line, and the third span has the others
+abbrev pub AreThreeFrom : List ℕ → List (List ℕ) → Span × Span × Span → Type 0
+AreThreeFrom line fields three =
+    (fields ≡ slice_of line three.0 ∷ slice_of line three.1 ∷ fields_of (slice_of line three.2))
+    × IsWithin (length line) three.0
+    × IsWithin (length line) three.1
+    × IsWithin (length line) three.2
+    × IsTrimmed (slice_of line three.2)
+
 -- the line has fields of this kind; the third span has the fields from the third on
 abbrev pub IsSplit : List ℕ → Fields → Type 0
 IsSplit line Nothing = fields_of line ≡ []
@@ -53,8 +62,4 @@ IsSplit line TooFew = (is_comment (fields_of line) ≡ false)
     × (0 < length (fields_of line))
     × (length (fields_of line) < 3)
 IsSplit line (ThreeOrMore a b rest) = (is_comment (fields_of line) ≡ false)
-    × (fields_of line ≡ slice_of line a ∷ slice_of line b ∷ fields_of (slice_of line rest))
-    × IsWithin (length line) a
-    × IsWithin (length line) b
-    × IsWithin (length line) rest
-    × IsTrimmed (slice_of line rest)
+    × AreThreeFrom line (fields_of line) (a, b, rest)

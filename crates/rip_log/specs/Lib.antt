@@ -24,6 +24,9 @@ pub mod Said
 pub mod Spans
 pub mod Steps
 pub mod Taken
+pub mod TimedCall
+pub mod TimedParts
+pub mod TimedText
 pub mod Times
 pub mod Wholes
 pub mod Writers

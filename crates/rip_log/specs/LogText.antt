@@ -102,20 +102,53 @@ pub record IsSender (text : List ℕ) (address : ℕ) : Type 0 where
   pub fits : address < 2 ^ 32
   pub spelled : text ≡ address_text address
 
--- a line whose first two fields are a link's name and a sender
-pub record HasSender (line link digits : List ℕ) (address : ℕ) : Type 0 where
+-- the first two of three fields are a link's name and a sender; Has says which three there are
+pub record SenderBy (Has : List ℕ → List ℕ → List ℕ → Type 0) (link digits : List ℕ)
+    (address : ℕ) : Type 0 where
   pub sender : List ℕ
-  pub three : HasThree line link sender digits
+  pub three : Has link sender digits
   pub name : IsName link
   pub is_sender : IsSender sender address
 
--- a line that is a record: its digits spell a datagram without a fault
-pub record IsRecord (line : List ℕ) (capture : Capture) : Type 0 where
+-- three fields are a record: their digits spell a datagram without a fault
+pub record RecordBy (Has : List ℕ → List ℕ → List ℕ → Type 0) (capture : Capture) : Type 0 where
   pub digits : List ℕ
-  pub front : HasSender line capture.link digits capture.sender
+  pub front : SenderBy Has capture.link digits capture.sender
   pub bytes : decode_of digits ≡ Ok capture.datagram
   pub few : length capture.datagram ≤ MOST_BYTES
   pub no_fault : (code : WireCode) (at : ℕ) → ¬ WireFault capture.datagram code at
+
+-- three fields are bad, by the first of their faults; no other code is one of three fields
+abbrev pub BadBy : (List ℕ → List ℕ → List ℕ → Type 0) → LogCode → Type 0
+BadBy Has LinkName = (link sender digits : List ℕ) × Has link sender digits × ¬ IsName link
+BadBy Has Sender =
+    (link sender digits : List ℕ) × Has link sender digits × IsName link
+    × ((address : ℕ) → ¬ IsSender sender address)
+BadBy Has Hex =
+    (link digits : List ℕ) × (address : ℕ) × SenderBy Has link digits address
+    × ((bytes : List ℕ) → decode_of digits ≢ Ok bytes)
+BadBy Has LongDatagram =
+    (link digits bytes : List ℕ) × (address : ℕ) × SenderBy Has link digits address
+    × (decode_of digits ≡ Ok bytes) × (MOST_BYTES < length bytes)
+BadBy Has (Wire e) =
+    (link digits bytes : List ℕ) × (address : ℕ) × SenderBy Has link digits address
+    × (decode_of digits ≡ Ok bytes) × (length bytes ≤ MOST_BYTES) × WireFault bytes e.code e.at
+BadBy Has other = ⊥
+
+-- three fields are judged: they are a record, or are bad
+abbrev pub AreThreeJudged : (List ℕ → List ℕ → List ℕ → Type 0) →
+    Result (Option Capture) LogCode → Type 0
+AreThreeJudged Has (Ok None) = ⊥
+AreThreeJudged Has (Ok (Some capture)) = RecordBy Has capture
+AreThreeJudged Has (Err code) = BadBy Has code
+
+-- a line whose first two fields are a link's name and a sender
+abbrev pub HasSender : List ℕ → List ℕ → List ℕ → ℕ → Type 0
+HasSender line = SenderBy (HasThree line)
+
+-- a line that is a record
+abbrev pub IsRecord : List ℕ → Capture → Type 0
+IsRecord line = RecordBy (HasThree line)
 
 -- fields of another number than three, where they say anything
 pub record HasOthers (line : List ℕ) : Type 0 where
@@ -128,21 +161,7 @@ pub record HasOthers (line : List ℕ) : Type 0 where
 abbrev pub IsBad : List ℕ → LogCode → Type 0
 IsBad line LongLine = MOST_LINE_BYTES < length line
 IsBad line Fields = HasOthers line
-IsBad line LinkName =
-    (link sender digits : List ℕ) × HasThree line link sender digits × ¬ IsName link
-IsBad line Sender =
-    (link sender digits : List ℕ) × HasThree line link sender digits × IsName link
-    × ((address : ℕ) → ¬ IsSender sender address)
-IsBad line Hex =
-    (link digits : List ℕ) × (address : ℕ) × HasSender line link digits address
-    × ((bytes : List ℕ) → decode_of digits ≢ Ok bytes)
-IsBad line LongDatagram =
-    (link digits bytes : List ℕ) × (address : ℕ) × HasSender line link digits address
-    × (decode_of digits ≡ Ok bytes) × (MOST_BYTES < length bytes)
-IsBad line (Wire e) =
-    (link digits bytes : List ℕ) × (address : ℕ) × HasSender line link digits address
-    × (decode_of digits ≡ Ok bytes) × (length bytes ≤ MOST_BYTES) × WireFault bytes e.code e.at
-IsBad line other = ⊥
+IsBad line other = BadBy (HasThree line) other
 
 -- a line is judged: it is skipped, or is a record, or is bad
 abbrev pub IsLineJudged : List ℕ → Result (Option Capture) LogCode → Type 0

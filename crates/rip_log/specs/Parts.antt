@@ -46,10 +46,16 @@ pub record IsFaulty (said : Result (Option Capture) LogCode) (from : LogCode →
   pub origin : from (code_of fault.why) ≡ origin_at line fault.front
   pub front : IfSome fault.front (IsFront line)
 
+-- what is said of three fields is what the parts and the room say, or this fault
+abbrev pub AreThreeSaid : Result (Option Capture) LogCode → (LogCode → Option Origin) → List ℕ →
+    List ℕ → Result Parts Fault → Type 0
+AreThreeSaid said from line room (Ok parts) =
+    (said ≡ Ok (Some (capture_of_parts line room parts))) × AreParts line room parts
+AreThreeSaid said from line room (Err fault) = IsFaulty said from line fault
+
 -- what is said of a line is what the parts and the room say, or this fault
 abbrev pub IsSaid : Result (Option Capture) LogCode → (LogCode → Option Origin) → List ℕ → List ℕ →
     Result (Option Parts) Fault → Type 0
 IsSaid said from line room (Ok None) = said ≡ Ok None
-IsSaid said from line room (Ok (Some parts)) =
-    (said ≡ Ok (Some (capture_of_parts line room parts))) × AreParts line room parts
-IsSaid said from line room (Err fault) = IsFaulty said from line fault
+IsSaid said from line room (Ok (Some parts)) = AreThreeSaid said from line room (Ok parts)
+IsSaid said from line room (Err fault) = AreThreeSaid said from line room (Err fault)

@@ -2,7 +2,7 @@
 
 ghost use Rattle.std.specs.Prelude.{◌≡◌, ◌≤◌, ◌<◌, ◌-◌, ℕ, [], ◌∷◌, true, false, length, drop, MatchOption, slice_range, slice_index};
 ghost use Rattle.memchr.specs.Find.{IsFirstByte, is_byte2};
-ghost use Rattle.rip_log.specs.Fields.{is_blank, fields_of, IsTrimmed, NextField, IsSplit};
+ghost use Rattle.rip_log.specs.Fields.{is_blank, fields_of, AreThreeFrom, IsTrimmed, NextField, IsSplit};
 
 use crate::span::Span;
 use memchr::memchr2_iter;
@@ -25,7 +25,7 @@ fn is_blank(byte: u8) -> bool
 }
 
 /// The first offset from `from` on that has no blank, or the end of the line.
-fn skip_blanks(line: &[u8], from: usize) -> usize
+pub fn skip_blanks(line: &[u8], from: usize) -> usize
     requires { from ≤ length line.now }
     ensures after { from ≤ result }
     ensures within { result ≤ length line.now }
@@ -48,7 +48,7 @@ fn first_blank(bytes: &[u8]) -> Option<usize>
 }
 
 /// The first offset after `from` that has a blank, or the end of the line.
-fn skip_field(line: &[u8], from: usize) -> usize
+pub fn skip_field(line: &[u8], from: usize) -> usize
     requires inside { from < length line.now }
     requires field { is_blank (slice_index line.now from) ≡ false }
     ensures after { from < result }
@@ -101,6 +101,26 @@ fn next_field(line: &[u8], from: usize) -> Option<Span>
     Some(Span { from, to })
 }
 
+/// The next three fields from `from` on, of which the third has all that follows, without the blanks
+/// at its end.
+pub fn three_from(line: &[u8], from: usize) -> Option<(Span, Span, Span)>
+    requires { from ≤ length line.now }
+    ensures { MatchOption result (length (fields_of (drop from line.now)) < 3)
+        (AreThreeFrom line.now (fields_of (drop from line.now))) }
+{
+    let first = next_field(line, from)?;
+    let second = next_field(line, first.to)?;
+    let from = skip_blanks(line, second.to);
+    if from == line.len() {
+        return None;
+    }
+    let rest = Span {
+        from,
+        to: end_of_rest(line, from),
+    };
+    Some((first, second, rest))
+}
+
 /// The fields of a line. Whether a fourth one follows the third is not looked for.
 pub fn split(line: &[u8]) -> Fields
     ensures { IsSplit line.now result }
@@ -113,20 +133,8 @@ pub fn split(line: &[u8]) -> Fields
     if line[from] == b'#' {
         return Fields::Comment;
     }
-    let first = Span {
-        from,
-        to: skip_field(line, from),
-    };
-    let Some(second) = next_field(line, first.to) else {
-        return Fields::TooFew;
-    };
-    let from = skip_blanks(line, second.to);
-    if from == line.len() {
-        return Fields::TooFew;
+    match three_from(line, from) {
+        Some((first, second, rest)) => Fields::ThreeOrMore(first, second, rest),
+        None => Fields::TooFew,
     }
-    let rest = Span {
-        from,
-        to: end_of_rest(line, from),
-    };
-    Fields::ThreeOrMore(first, second, rest)
 }

@@ -13,13 +13,15 @@ ghost use Rattle.rip_log.specs.Lines.{Capture, judge};
 ghost use Rattle.rip_log.specs.Logs.{Gives, Log, Numbered, log_at, log_in};
 ghost use Rattle.rip_log.specs.LogText.{AreLines, EndsLine, IsLineJudged, LogFailed, LogFault, LogText};
 ghost use Rattle.rip_log.specs.Runs.{IsTaken, numbered};
+ghost use Rattle.rip_log.specs.TimedText.{IsTimedLine, TimedSaid};
 ghost use Rattle.rip_log.specs.Times.{IsSecondText, IsTimeText};
 ghost use Rattle.rip_log.specs.declared.error.LogCode.{LogCode};
 ghost use Rattle.rip_log.specs.declared.error.LogError.{LogError};
 ghost use Rattle.rip_log.specs.declared.reader.Record.{Record};
 
 use crate::limits::{
-    MOST_HELD_BYTES, MOST_LINE_BYTES, MOST_LINES, MOST_MICROS, MOST_PASSED_BYTES, MOST_SECONDS,
+    MOST_HELD_BYTES, MOST_LINE_BYTES, MOST_LINE_NUMBER, MOST_LINES, MOST_MICROS, MOST_PASSED_BYTES,
+    MOST_SECONDS,
 };
 use rip_wire::laws;
 
@@ -28,6 +30,7 @@ pub fn limits()
     ensures bytes { MOST_LINE_BYTES ≡ 2048 }
     ensures lines { MOST_LINES ≡ 1000000 }
     ensures passed { MOST_PASSED_BYTES + 1 ≡ 2 ^ 64 }
+    ensures number { MOST_LINE_NUMBER + 1 ≡ 2 ^ 64 }
     ensures held { MOST_HELD_BYTES ≡ 32768 }
     ensures micros { MOST_MICROS ≡ 253402300799999999 }
     ensures seconds { MOST_SECONDS ≡ 253402300799 }
@@ -150,6 +153,16 @@ pub fn time_texts()
         a ≡ b }
     ensures time { (m n : ℕ) (text : List ℕ) → IsTimeText m text → IsTimeText n text → m ≡ n }
 {}
+
+/// A line of a log with times says one thing.
+pub fn timed_lines()
+    ensures { (line : List ℕ) (a b : Option TimedSaid) → IsTimedLine line a → IsTimedLine line b →
+        a ≡ b }
+{
+    laws::names();
+    laws::address_texts();
+    laws::first_faults();
+}
 
 /// Texts come in the order of their times, where bytes are compared from the left.
 pub fn time_order()

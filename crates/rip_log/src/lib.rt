@@ -18,6 +18,7 @@ mod sink;
 mod source;
 mod span;
 mod time;
+mod timed;
 mod window;
 
 pub use device::Failed;
@@ -31,3 +32,4 @@ pub use sink::{IntoWrite, Sink};
 pub use source::{FromRead, Source};
 pub use span::Span;
 pub use time::{read_time, write_second, write_time};
+pub use timed::{TimedFault, TimedLine, TimedReader, TimedRecord};

@@ -6,7 +6,7 @@ ghost use Rattle.rip_log.specs.Codes.{code_of};
 ghost use Rattle.rip_log.specs.Fields.{fields_of};
 ghost use Rattle.rip_log.specs.Said.{is_of_datagram, origin_by, origin_of};
 ghost use Rattle.rip_log.specs.Lines.{judge, three_fields, unless_skipped};
-ghost use Rattle.rip_log.specs.Parts.{IsSaid};
+ghost use Rattle.rip_log.specs.Parts.{AreThreeSaid, IsSaid};
 ghost use Rattle.rip_log.specs.Spans.{IsWithin, slice_of};
 
 use crate::digits::decode;
@@ -67,7 +67,7 @@ impl Fault {
 }
 
 /// The line without a carriage return at its end.
-fn without_return(line: &[u8]) -> &[u8]
+pub fn without_return(line: &[u8]) -> &[u8]
     ensures { result.now ≡ strip_last 13 line.now }
 {
     if !line.is_empty() && line[line.len() - 1] == b'\r' {
@@ -78,17 +78,17 @@ fn without_return(line: &[u8]) -> &[u8]
 }
 
 /// Judges three fields of a line, and writes the datagram to the room.
-fn judge_fields(
+pub fn judge_fields(
     line: &[u8],
     link: Span,
     sender: Span,
     digits: Span,
     room: &mut [u8; MOST_BYTES],
-) -> Result<Option<Parts>, Fault>
+) -> Result<Parts, Fault>
     requires link { IsWithin (length line.now) link }
     requires sender { IsWithin (length line.now) sender }
     requires digits { IsWithin (length line.now) digits }
-    ensures { IsSaid (three_fields
+    ensures { AreThreeSaid (three_fields
         (slice_of line.now link) (slice_of line.now sender) (slice_of line.now digits))
         (origin_by (slice_of line.now link ∷ slice_of line.now sender
         ∷ slice_of line.now digits ∷ []))
@@ -110,11 +110,11 @@ fn judge_fields(
     };
     match read(&room[..count]) {
         Err(error) => Err(Fault::behind(front, LineFault::Wire(error))),
-        Ok(_) => Ok(Some(Parts {
+        Ok(_) => Ok(Parts {
             link,
             sender: address,
             count,
-        })),
+        }),
     }
 }
 
@@ -127,12 +127,14 @@ fn judge_bare(bare: &[u8], room: &mut [u8; MOST_BYTES]) -> Result<Option<Parts>,
         Fields::Nothing | Fields::Comment => Ok(None),
         Fields::TooFew => Err(Fault::from(LineFault::Fields)),
         Fields::ThreeOrMore(link, sender, rest) => {
-            let judged = judge_fields(bare, link, sender, rest, room);
-            // Digits have no blank among them, so only a bad line is searched for a fourth field.
-            if judged.is_err() && !is_field(&bare[rest.from..rest.to]) {
-                return Err(Fault::from(LineFault::Fields));
+            match judge_fields(bare, link, sender, rest, room) {
+                Ok(parts) => Ok(Some(parts)),
+                // Digits have no blank among them, so only a bad line is searched for a fourth field.
+                Err(_) if !is_field(&bare[rest.from..rest.to]) => {
+                    Err(Fault::from(LineFault::Fields))
+                }
+                Err(fault) => Err(fault),
             }
-            judged
         }
     }
 }

@@ -82,7 +82,7 @@ struct Progress {
 }
 
 /// A name, as text.
-fn name_text(name: &[u8]) -> &str
+pub fn name_text(name: &[u8]) -> &str
     requires { is_name name.now ≡ true }
     ensures { result.now ≡ name.now }
 {

@@ -1,0 +1,41 @@
+-- What the lines of a log with times are, in the words of its format.
+use Rattle.std.specs.Prelude.{ℕ, ◌<◌, List, [], ◌∷◌, length, Option, Some, None}
+use Rattle.rip_log.specs.Lines.{Capture}
+use Rattle.rip_log.specs.LogText.{BadBy, HasFields, IsSkipped, RecordBy, SaysNothing}
+use Rattle.rip_log.specs.Times.{IsTimeText}
+use Rattle.rip_log.specs.declared.error.LogCode.{LogCode}
+use Rattle.rip_log.specs.declared.error.LogCode.TheVariants.{LongLine, Fields}
+use Rattle.rip_log.specs.declared.limits.TheConstants.{MOST_LINE_BYTES}
+
+-- a line of four fields: the text of a time, and three more
+pub record HasTimed (line : List ℕ) (micros : ℕ) (link sender digits : List ℕ) : Type 0 where
+  pub time : List ℕ
+  pub has_fields : HasFields line (time ∷ link ∷ sender ∷ digits ∷ [])
+  pub is_time : IsTimeText micros time
+
+-- a line that says anything, of other fields
+pub record HasNoTime (line : List ℕ) : Type 0 where
+  pub fields : List (List ℕ)
+  pub has_fields : HasFields line fields
+  pub says : ¬ SaysNothing fields
+  pub other : (micros : ℕ) (link sender digits : List ℕ) → ¬ HasTimed line micros link sender digits
+
+-- what a line says that is not skipped: it is a record of a time, or bad at a time, by the three
+-- fields behind it; or it is bad and has no time
+pub data TimedSaid : Type 0 where
+  captured : ℕ → Capture → TimedSaid
+  bad : ℕ → LogCode → TimedSaid
+  untimed : LogCode → TimedSaid
+
+-- a line that is not skipped says this
+abbrev pub SaysTimed : List ℕ → TimedSaid → Type 0
+SaysTimed line (captured micros capture) = RecordBy (HasTimed line micros) capture
+SaysTimed line (bad micros code) = BadBy (HasTimed line micros) code
+SaysTimed line (untimed LongLine) = MOST_LINE_BYTES < length line
+SaysTimed line (untimed Fields) = HasNoTime line
+SaysTimed line (untimed other) = ⊥
+
+-- a line is skipped, or says this
+abbrev pub IsTimedLine : List ℕ → Option TimedSaid → Type 0
+IsTimedLine line None = IsSkipped line
+IsTimedLine line (Some said) = SaysTimed line said
