@@ -1,7 +1,7 @@
 -- What is told is a metric.
 use Rattle.rip_plan.specs.Network.{Network}
 use Rattle.rip_table.specs.State.{Fits}
-use Rattle.rip_table.specs.declared.table.MetricTable.{Ghosts}
+use Rattle.rip_table.specs.declared.table.Table.{Ghosts}
 use Rattle.rip_check.specs.Cases.{network_of, told_in}
 use Rattle.rip_check.specs.Metrics.{IsInRange}
 use Rattle.rip_check.specs.Told.{told}

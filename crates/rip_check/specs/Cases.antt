@@ -2,7 +2,7 @@
 use Rattle.std.specs.Prelude.{ℕ}
 use Rattle.rip_plan.specs.Network.{Network}
 use Rattle.rip_table.specs.State.{State}
-use Rattle.rip_table.specs.declared.table.MetricTable.{Ghosts}
+use Rattle.rip_table.specs.declared.table.Table.{Ghosts}
 use Rattle.rip_check.specs.declared.case.Case.{Case}
 use Rattle.rip_check.specs.Told.{told}
 

@@ -16,10 +16,10 @@ use crate::places::failing_equation;
 use crate::routes::{read, reason};
 use crate::verdict::{Place2, Unclear, Verdict};
 use rip_plan::{Interface, MOST_LINKS, Plan};
-use rip_table::MetricTable;
+use rip_table::Table;
 
 /// The first interface that was not heard.
-fn first_unheard<T: MetricTable>(plan: &Plan, table: &T) -> Option<Interface>
+fn first_unheard<T: Table>(plan: &Plan, table: &T) -> Option<Interface>
     requires { Fits plan.now (T.state table.now) }
     ensures some { IfSome result (λ x.
         IsFirstUnheard plan.now (T.state table.now) x.router x.link) }
@@ -35,7 +35,7 @@ fn first_unheard<T: MetricTable>(plan: &Plan, table: &T) -> Option<Interface>
 
 /// The link of the first interface of a router that was not heard. What the router's silence is
 /// read as, a route or none, is then not known.
-pub fn unheard_link<T: MetricTable>(plan: &Plan, table: &T, router: usize) -> Option<usize>
+pub fn unheard_link<T: Table>(plan: &Plan, table: &T, router: usize) -> Option<usize>
     requires fits { Fits plan.now (T.state table.now) }
     requires router { router < length plan.now.routers }
     ensures some { IfSome result (λ l.
@@ -53,12 +53,7 @@ pub fn unheard_link<T: MetricTable>(plan: &Plan, table: &T, router: usize) -> Op
 }
 
 /// The first place of a router, from a prefix on, that does not hold.
-fn first_in_row<T: MetricTable>(
-    plan: &Plan,
-    table: &T,
-    router: usize,
-    from: usize,
-) -> Option<Place2>
+fn first_in_row<T: Table>(plan: &Plan, table: &T, router: usize, from: usize) -> Option<Place2>
     requires fits { Fits plan.now (T.state table.now) }
     requires router { router < length plan.now.routers }
     ensures some { IfSome result
@@ -76,7 +71,7 @@ fn first_in_row<T: MetricTable>(
 
 /// The first place after the given one, by router and then by prefix, whose route can be read and
 /// that does not hold. The given place, if there is one, has a prefix of the table.
-pub fn next_unsettled<T: MetricTable>(
+pub fn next_unsettled<T: Table>(
     plan: &Plan,
     table: &T,
     after: Option<(usize, usize)>,
@@ -102,7 +97,7 @@ pub fn next_unsettled<T: MetricTable>(
 }
 
 /// The first router below a bound whose place can't be read.
-fn first_unreadable<T: MetricTable>(case: &Case<'_, T>, below: usize) -> Option<usize>
+fn first_unreadable<T: Table>(case: &Case<'_, T>, below: usize) -> Option<usize>
     requires { below ≤ length (network_of case.now).routers }
     ensures { IsFirstOf below (At case.now IsReadable) result }
 {
@@ -117,7 +112,7 @@ fn first_unreadable<T: MetricTable>(case: &Case<'_, T>, below: usize) -> Option<
 
 /// The first router below a bound whose place does not hold. If any router's place can't be read,
 /// the error is the first such router of all, and it does not matter which places hold.
-fn first_failing<T: MetricTable>(case: &Case<'_, T>, below: usize) -> Result<Option<usize>, usize>
+fn first_failing<T: Table>(case: &Case<'_, T>, below: usize) -> Result<Option<usize>, usize>
     requires { below ≤ length (network_of case.now).routers }
     ensures unreadable { IfErr result (λ r. IsFirstOf (length (network_of case.now).routers)
         (At case.now IsReadable) (Some r)) }
@@ -143,7 +138,7 @@ fn first_failing<T: MetricTable>(case: &Case<'_, T>, below: usize) -> Result<Opt
 type FirstPlace = Result<Option<(usize, usize)>, (usize, usize)>;
 
 /// The first place, with the places of the next prefix.
-fn with_prefix<T: MetricTable>(case: &Case<'_, T>, found: FirstPlace) -> FirstPlace
+fn with_prefix<T: Table>(case: &Case<'_, T>, found: FirstPlace) -> FirstPlace
     requires { IsFirstPlace (network_of case.now) (told_in case.now) case.now.prefix found }
     ensures { IsFirstPlace (network_of case.now) (told_in case.now) (case.now.prefix + 1) result }
 {
@@ -170,7 +165,7 @@ fn with_prefix<T: MetricTable>(case: &Case<'_, T>, found: FirstPlace) -> FirstPl
 
 /// The first place of a table. This goes prefix by prefix, so that the two least metrics of each
 /// link are found once for all routers.
-fn first_place<T: MetricTable>(plan: &Plan, table: &T) -> FirstPlace
+fn first_place<T: Table>(plan: &Plan, table: &T) -> FirstPlace
     requires { Fits plan.now (T.state table.now) }
     ensures { IsFirstPlace plan.now (told plan.now (T.state table.now))
         (length (T.state table.now).prefixes) result }
@@ -188,7 +183,7 @@ fn first_place<T: MetricTable>(plan: &Plan, table: &T) -> FirstPlace
 }
 
 /// The verdict, by its definition.
-fn decide<T: MetricTable>(plan: &Plan, table: &T) -> Verdict
+fn decide<T: Table>(plan: &Plan, table: &T) -> Verdict
     requires { Fits plan.now (T.state table.now) }
     ensures { IsVerdict plan.now (told plan.now (T.state table.now)) result }
 {
@@ -215,7 +210,7 @@ fn decide<T: MetricTable>(plan: &Plan, table: &T) -> Verdict
 /// and where nothing is, 16 of an interface that does not poison. Settled is answered exactly where
 /// right tables are told; then what follows them arrives. Unsettled names the first place that does
 /// not hold, by router and then by prefix, and Unclear the first reason why no tables are told.
-pub fn judge<T: MetricTable>(plan: &Plan, table: &T) -> Verdict
+pub fn judge<T: Table>(plan: &Plan, table: &T) -> Verdict
     requires { Fits plan.now (T.state table.now) }
     ensures settled { (result ≡ Verdict.Settled)
         ↔ ShowsRightTables plan.now (told plan.now (T.state table.now)) }

@@ -8,12 +8,12 @@ ghost use Rattle.rip_check.specs.TwoLeasts.{AreLeastShown};
 
 use crate::links::TwoLeast;
 use rip_plan::Plan;
-use rip_table::MetricTable;
+use rip_table::Table;
 
 /// A prefix of a table, by the plan that the table fits: what the places of the prefix are asked
 /// of.
 #[derive(Drop)]
-pub struct Case<'a, T: MetricTable> {
+pub struct Case<'a, T: Table> {
     pub plan: &'a Plan,
     pub table: &'a T,
     /// The number of the prefix in the table.
@@ -26,7 +26,7 @@ pub struct Case<'a, T: MetricTable> {
         AreLeastShown plan.now (told plan.now (T.state table.now)) prefix l.now) ∥₁ },
 }
 
-impl<'a, T: MetricTable> Case<'a, T> {
+impl<'a, T: Table> Case<'a, T> {
     ghost use Rattle.rip_check.specs.Cases.{network_of, told_in};
 
     /// The case of a prefix, by its number.

@@ -10,7 +10,7 @@ ghost use Rattle.rip_check.specs.Metrics.{metric_at};
 use crate::case::Case;
 use crate::lookup::told_at;
 use rip_plan::Plan;
-use rip_table::MetricTable;
+use rip_table::Table;
 
 /// The least metric on a link, whose it is, and the least of the other routers'. A plan has at most
 /// 128 routers, so that bytes serve.
@@ -29,7 +29,7 @@ pub(crate) const NOTHING: TwoLeast = TwoLeast {
 };
 
 /// What an interface tells, 16 where it tells nothing.
-pub(crate) fn seen_at<T: MetricTable>(case: &Case<'_, T>, interface: usize) -> u32
+pub(crate) fn seen_at<T: Table>(case: &Case<'_, T>, interface: usize) -> u32
     requires { interface < length (network_of case.now).interfaces }
     ensures value { result
         ≡ unwrap_or (metric_at (told_in case.now) interface case.now.prefix) 16 }
@@ -99,7 +99,7 @@ fn add_interface(plan: &Plan, interface: usize, metric: u32, links: &mut [TwoLea
 }
 
 /// Writes the two least metrics that are told on each link. 16 is there to begin with.
-pub(crate) fn fill<T: MetricTable>(case: &Case<'_, T>, links: &mut [TwoLeast])
+pub(crate) fn fill<T: Table>(case: &Case<'_, T>, links: &mut [TwoLeast])
     requires { length (network_of case.now).links ≤ length links.old }
     ensures { AreTwoLeast (network_of case.now)
         (shown_of (told_in case.now) case.now.prefix) links.new }

@@ -9,7 +9,7 @@ ghost use Rattle.rip_check.specs.Told.{poisons};
 
 use crate::case::Case;
 use rip_plan::{Interface, Plan};
-use rip_table::MetricTable;
+use rip_table::Table;
 use rip_wire::Metric;
 
 /// The metric with this number.
@@ -39,7 +39,7 @@ pub(crate) fn interface_on(plan: &Plan, router: usize, link: usize) -> Option<In
 }
 
 /// The metric that an interface shows.
-fn shown_at<T: MetricTable>(case: &Case<'_, T>, interface: usize) -> Option<u32>
+fn shown_at<T: Table>(case: &Case<'_, T>, interface: usize) -> Option<u32>
     requires { interface < length (network_of case.now).interfaces }
     ensures metric { result
         ≡ metric_at (T.state case.now.table.now) interface case.now.prefix }
@@ -52,7 +52,7 @@ fn shown_at<T: MetricTable>(case: &Case<'_, T>, interface: usize) -> Option<u32>
 }
 
 /// Whether the silence of an interface tells nothing: it poisons, or was not heard.
-fn is_mute<T: MetricTable>(case: &Case<'_, T>, interface: usize) -> bool
+fn is_mute<T: Table>(case: &Case<'_, T>, interface: usize) -> bool
     requires { interface < length (network_of case.now).interfaces }
     ensures { result ≡ (poisons (network_of case.now) interface
         || not ((T.state case.now.table.now).heard interface)) }
@@ -62,7 +62,7 @@ fn is_mute<T: MetricTable>(case: &Case<'_, T>, interface: usize) -> bool
 
 /// The metric that an interface tells: what it shows, or 16 where it was heard, shows nothing and
 /// does not poison.
-pub(crate) fn told_at<T: MetricTable>(case: &Case<'_, T>, interface: usize) -> Option<u32>
+pub(crate) fn told_at<T: Table>(case: &Case<'_, T>, interface: usize) -> Option<u32>
     requires { interface < length (network_of case.now).interfaces }
     ensures metric { result ≡ metric_at (told_in case.now) interface case.now.prefix }
     ensures range { IfSome result (λ m. (1 ≤ m) × (m ≤ 16)) }

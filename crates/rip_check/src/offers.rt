@@ -13,12 +13,12 @@ use crate::case::Case;
 use crate::links::{TwoLeast, seen_at};
 use crate::lookup::metric_of;
 use rip_plan::{Interface, Plan};
-use rip_table::MetricTable;
+use rip_table::Table;
 use rip_wire::Metric;
 
 /// The least of `best` and of what the neighbours over the link of an interface offer, by asking
 /// each.
-fn least_asked<T: MetricTable>(case: &Case<'_, T>, own: Interface, best: u32) -> u32
+fn least_asked<T: Table>(case: &Case<'_, T>, own: Interface, best: u32) -> u32
     requires own { HasCost (network_of case.now) own.router own.link own.cost }
     requires best { best ≤ 16 }
     ensures at_most { result ≤ best }
@@ -65,7 +65,7 @@ pub(crate) fn least_told(own: Interface, two: TwoLeast, best: u32) -> u32
 /// The least of `best` and of what the neighbours over the link of an interface offer: by the two
 /// least metrics that are told on each link, where they are known, or else by asking each
 /// neighbour.
-pub(crate) fn best_over<T: MetricTable>(case: &Case<'_, T>, own: Interface, best: u32) -> u32
+pub(crate) fn best_over<T: Table>(case: &Case<'_, T>, own: Interface, best: u32) -> u32
     requires own { HasCost (network_of case.now) own.router own.link own.cost }
     requires best { best ≤ 16 }
     ensures at_most { result ≤ best }
@@ -99,7 +99,7 @@ pub(crate) fn direct_or_16(plan: &Plan, router: usize, prefix: usize) -> u32
 
 /// The least of 16, the direct cost and all offers; the direct cost where the router keeps the
 /// prefix.
-pub(crate) fn least_choice<T: MetricTable>(case: &Case<'_, T>, router: usize, keeps: bool) -> u32
+pub(crate) fn least_choice<T: Table>(case: &Case<'_, T>, router: usize, keeps: bool) -> u32
     requires router { router < length (network_of case.now).routers }
     requires keeps { Decides keeps (IsKept (network_of case.now) router case.now.prefix) }
     ensures most { result ≤ 16 }
@@ -118,7 +118,7 @@ pub(crate) fn least_choice<T: MetricTable>(case: &Case<'_, T>, router: usize, ke
     best
 }
 
-impl<T: MetricTable> Case<'_, T> {
+impl<T: Table> Case<'_, T> {
     /// What a neighbour offers a router: the sum of what the neighbour's interface `across` shows,
     /// or of 16 where it shows nothing, and of the cost of the router's own interface on the same
     /// link; 16 where that is more (RFC 2453, section 3.9.2).
@@ -140,7 +140,7 @@ impl<T: MetricTable> Case<'_, T> {
 /// What a neighbour offers a router: the sum of what the neighbour's interface `across` shows of a
 /// prefix, or of 16 where it shows nothing, and of the cost of the router's own interface on the
 /// same link; 16 where that is more (RFC 2453, section 3.9.2).
-pub fn offer<T: MetricTable>(
+pub fn offer<T: Table>(
     plan: &Plan,
     table: &T,
     own: Interface,

@@ -17,7 +17,7 @@ use crate::routes::{ReadRoute, read, reason};
 use crate::verdict::{Place2, Route, Unclear};
 use crate::way::Way;
 use rip_plan::Plan;
-use rip_table::MetricTable;
+use rip_table::Table;
 use rip_wire::Metric;
 
 /// Whether a router has a prefix itself at this cost.
@@ -32,7 +32,7 @@ pub(crate) fn is_direct(plan: &Plan, router: usize, prefix: usize, metric: u32) 
 
 /// Whether a neighbour on the link offers this metric, the least choice of a router that does not
 /// keep the prefix.
-fn is_offered<T: MetricTable>(case: &Case<'_, T>, router: usize, metric: u32, link: usize) -> bool
+fn is_offered<T: Table>(case: &Case<'_, T>, router: usize, metric: u32, link: usize) -> bool
     requires router { router < length (network_of case.now).routers }
     requires takes { IsKept (network_of case.now) router case.now.prefix → ⊥ }
     requires small { metric < 16 }
@@ -47,12 +47,7 @@ fn is_offered<T: MetricTable>(case: &Case<'_, T>, router: usize, metric: u32, li
 }
 
 /// Whether the way of a route gives its metric, which is the least choice of the router.
-fn is_given<T: MetricTable>(
-    case: &Case<'_, T>,
-    router: usize,
-    keeps: bool,
-    route: ReadRoute,
-) -> bool
+fn is_given<T: Table>(case: &Case<'_, T>, router: usize, keeps: bool, route: ReadRoute) -> bool
     requires router { router < length (network_of case.now).routers }
     requires keeps { Decides keeps (IsKept (network_of case.now) router case.now.prefix) }
     requires way { FitsWay (network_of case.now) router case.now.prefix route.metric route.way }
@@ -67,7 +62,7 @@ fn is_given<T: MetricTable>(
 }
 
 /// What the equation of a place gives, if the route that was read there does not hold.
-pub(crate) fn failing_equation<T: MetricTable>(
+pub(crate) fn failing_equation<T: Table>(
     case: &Case<'_, T>,
     router: usize,
     route: ReadRoute,
@@ -111,7 +106,7 @@ pub(crate) fn place_of(router: usize, prefix: usize, route: ReadRoute, equation:
     }
 }
 
-impl<T: MetricTable> Case<'_, T> {
+impl<T: Table> Case<'_, T> {
     /// The place of a router with its values, if its route can be read and does not hold.
     pub fn failing(&self, router: usize) -> Option<Place2>
         requires { router < length (network_of self.now).routers }
@@ -167,7 +162,7 @@ impl<T: MetricTable> Case<'_, T> {
 /// The route of a router for a prefix, both by their numbers, or why none can be read. At a place
 /// of a leaf that is hidden, several routes may fit what is shown; the answer is then the defined
 /// one.
-pub fn route<T: MetricTable>(
+pub fn route<T: Table>(
     plan: &Plan,
     table: &T,
     router: usize,
@@ -194,7 +189,7 @@ pub fn route<T: MetricTable>(
 
 /// The least of 16, of the metric at which a router has a prefix itself, and of what its neighbours
 /// offer (RFC 2453, section 3.9.2); its own metric where it keeps the prefix.
-pub fn equation<T: MetricTable>(plan: &Plan, table: &T, router: usize, prefix: usize) -> Metric
+pub fn equation<T: Table>(plan: &Plan, table: &T, router: usize, prefix: usize) -> Metric
     requires fits { Fits plan.now (T.state table.now) }
     requires router { router < length plan.now.routers }
     requires prefix { prefix < length (T.state table.now).prefixes }

@@ -15,7 +15,7 @@ use crate::surveys::survey_of;
 use crate::verdict::Unclear;
 use crate::way::Way;
 use rip_plan::Interface;
-use rip_table::MetricTable;
+use rip_table::Table;
 
 /// A router's route for a prefix, as it is read from what is shown.
 #[derive(Clone, Copy)]
@@ -34,7 +34,7 @@ const UNREACHABLE: ReadRoute = ReadRoute {
 
 /// The one metric and way that can be behind what a router with two interfaces shows, if there is
 /// one.
-fn read_route<T: MetricTable>(case: &Case<'_, T>, router: usize) -> Option<ReadRoute>
+fn read_route<T: Table>(case: &Case<'_, T>, router: usize) -> Option<ReadRoute>
     requires router { router < length (network_of case.now).routers }
     requires two { HasTwoInterfaces (network_of case.now) router }
     ensures some { IfSome result (At case.now IsRead router) }
@@ -70,7 +70,7 @@ fn read_route<T: MetricTable>(case: &Case<'_, T>, router: usize) -> Option<ReadR
 }
 
 /// The link of a router's first interface that tells nothing.
-fn first_gap<T: MetricTable>(case: &Case<'_, T>, router: usize) -> Option<usize>
+fn first_gap<T: Table>(case: &Case<'_, T>, router: usize) -> Option<usize>
     requires { router < length (network_of case.now).routers }
     ensures some { IfSome result (At case.now IsFirstGap router) }
     ensures none { IfNone result (At case.now ShowsEach router) }
@@ -87,7 +87,7 @@ fn first_gap<T: MetricTable>(case: &Case<'_, T>, router: usize) -> Option<usize>
 }
 
 /// Why no route of a router can be read.
-pub(crate) fn reason<T: MetricTable>(case: &Case<'_, T>, router: usize) -> Unclear
+pub(crate) fn reason<T: Table>(case: &Case<'_, T>, router: usize) -> Unclear
     requires { router < length (network_of case.now).routers }
     ensures { At case.now IsReason router result }
 {
@@ -115,7 +115,7 @@ pub(crate) fn reason<T: MetricTable>(case: &Case<'_, T>, router: usize) -> Uncle
 }
 
 /// The route of a router with one interface that tells nothing or 16 there. It may not be shown.
-fn silent_leaf<T: MetricTable>(case: &Case<'_, T>, own: Interface, told: Option<u32>) -> ReadRoute
+fn silent_leaf<T: Table>(case: &Case<'_, T>, own: Interface, told: Option<u32>) -> ReadRoute
     requires leaf { (i : ℕ) × IsLeaf (network_of case.now) own.router i own.link own.cost
         × (told ≡ metric_at (told_in case.now) i case.now.prefix) }
     requires silent { IsSilent told }
@@ -149,7 +149,7 @@ fn silent_leaf<T: MetricTable>(case: &Case<'_, T>, own: Interface, told: Option<
 
 /// The route of a router with one interface, if one can be read: there is none where it shows a
 /// metric below 16 on the link to which the prefix is attached.
-fn leaf_route<T: MetricTable>(case: &Case<'_, T>, router: usize) -> Option<ReadRoute>
+fn leaf_route<T: Table>(case: &Case<'_, T>, router: usize) -> Option<ReadRoute>
     requires router { router < length (network_of case.now).routers }
     requires leaf { (i l c : ℕ) × IsLeaf (network_of case.now) router i l c }
     ensures some { IfSome result (At case.now IsRead router) }
@@ -174,7 +174,7 @@ fn leaf_route<T: MetricTable>(case: &Case<'_, T>, router: usize) -> Option<ReadR
 }
 
 /// The route of a router, if one can be read.
-pub(crate) fn read<T: MetricTable>(case: &Case<'_, T>, router: usize) -> Option<ReadRoute>
+pub(crate) fn read<T: Table>(case: &Case<'_, T>, router: usize) -> Option<ReadRoute>
     requires { router < length (network_of case.now).routers }
     ensures some { IfSome result (At case.now IsRead router) }
     ensures none { IfNone result (At case.now IsReadable router → ⊥) }

@@ -12,7 +12,7 @@ ghost use Rattle.rip_check.specs.Tables.{IsSilent};
 use crate::case::Case;
 use crate::lookup::{may_hold_back, told_at};
 use rip_plan::Plan;
-use rip_table::MetricTable;
+use rip_table::Table;
 
 /// What a router tells of a prefix.
 #[derive(Clone, Copy)]
@@ -100,7 +100,7 @@ fn add_shown(
 
 /// What a router tells of a prefix. Every place is read by it, so it stands in the loop over them.
 #[inline(always)]
-pub(crate) fn survey_of<T: MetricTable>(case: &Case<'_, T>, router: usize) -> Survey
+pub(crate) fn survey_of<T: Table>(case: &Case<'_, T>, router: usize) -> Survey
     requires { router < length (network_of case.now).routers }
     ensures { IsSurvey (network_of case.now) (told_in case.now) router case.now.prefix
         (length (network_of case.now).interfaces) result }

@@ -13,7 +13,7 @@ use crate::places::place_of;
 use crate::routes::read;
 use crate::verdict::Place2;
 use rip_plan::{MOST_LINKS, Plan};
-use rip_table::MetricTable;
+use rip_table::Table;
 use std::alloc::{AllocError, Global};
 
 /// The places of a plan and a table that do not hold.
@@ -25,7 +25,7 @@ pub struct Unsettled {
 }
 
 /// What the equation of a place gives, if the place can be read and does not hold.
-fn mark_of<T: MetricTable>(case: &Case<'_, T>, router: usize) -> Option<u8>
+fn mark_of<T: Table>(case: &Case<'_, T>, router: usize) -> Option<u8>
     requires { router < length (network_of case.now).routers }
     ensures { At case.now IsMark router result }
 {
@@ -36,7 +36,7 @@ fn mark_of<T: MetricTable>(case: &Case<'_, T>, router: usize) -> Option<u8>
 }
 
 /// Writes the marks of all places of a prefix.
-fn mark_prefix<T: MetricTable>(case: &Case<'_, T>, marks: &mut [Option<u8>])
+fn mark_prefix<T: Table>(case: &Case<'_, T>, marks: &mut [Option<u8>])
     requires { length marks.old ≡ length (network_of case.now).routers
         * length (told_in case.now).prefixes }
     ensures marked { (r : ℕ) → r < length (network_of case.now).routers →
@@ -55,11 +55,7 @@ fn mark_prefix<T: MetricTable>(case: &Case<'_, T>, marks: &mut [Option<u8>])
 impl Unsettled {
     /// Finds the places that do not hold. The two least metrics of each link are found once for all
     /// routers.
-    pub fn find<T: MetricTable>(
-        alloc: Global,
-        plan: &Plan,
-        table: &T,
-    ) -> Result<Unsettled, AllocError>
+    pub fn find<T: Table>(alloc: Global, plan: &Plan, table: &T) -> Result<Unsettled, AllocError>
         requires { Fits plan.now (T.state table.now) }
         ensures { IfOk result (λ unsettled.
             AreUnsettled plan.now (told plan.now (T.state table.now)) unsettled) }
@@ -78,7 +74,7 @@ impl Unsettled {
     }
 
     /// The place of a router and the prefix of a case, if it can be read and does not hold.
-    pub fn at<T: MetricTable>(&self, case: &Case<'_, T>, router: usize) -> Option<Place2>
+    pub fn at<T: Table>(&self, case: &Case<'_, T>, router: usize) -> Option<Place2>
         requires places { AreUnsettled (network_of case.now) (told_in case.now) self.now }
         requires router { router < length (network_of case.now).routers }
         ensures some { IfSome result (λ f. (f.router ≡ router) × (f.prefix ≡ case.now.prefix)

@@ -15,8 +15,8 @@ use self::numbers::find_numbers;
 use self::rows::{Rows, add_new, add_planned};
 use crate::error::TableError;
 use crate::guesses::SLOTS;
-use crate::judging::{KnownMetrics, Numbers, check};
-use crate::table::{MetricTable, none_heard};
+use crate::judging::{Numbers, check};
+use crate::table::{MetricTable, Table, none_heard};
 use indexmap::IndexMap;
 use rip_plan::Plan;
 use rip_wire::{Datagram, Entry, Kind, MOST_ENTRIES, Metric, Prefix};
@@ -39,21 +39,7 @@ pub struct GridTable<S: BuildHasher> {
     ghost slots: { vec_len guesses ≡ SLOTS },
 }
 
-impl<S: BuildHasher> KnownMetrics for GridTable<S> {
-    ghost state = { λ t. grid_state t.heard.items (rows_of t.rows.entries) };
-
-    ghost is_state = { λ t. t.valid };
-
-    fn count(&self) -> usize {
-        self.rows.len()
-    }
-
-    fn metric_at(&self, interface: usize, k: usize) -> Option<Metric> {
-        self.rows[k][interface].metric()
-    }
-}
-
-impl<S: BuildHasher> MetricTable for GridTable<S> {
+impl<S: BuildHasher> Table for GridTable<S> {
     ghost state = { λ t. grid_state t.heard.items (rows_of t.rows.entries) };
 
     ghost is_state = { λ t. t.valid };
@@ -63,7 +49,7 @@ impl<S: BuildHasher> MetricTable for GridTable<S> {
     }
 
     fn prefix_count(&self) -> usize {
-        self.count()
+        self.rows.len()
     }
 
     fn prefix(&self, k: usize) -> Prefix {
@@ -71,13 +57,15 @@ impl<S: BuildHasher> MetricTable for GridTable<S> {
     }
 
     fn metric(&self, interface: usize, k: usize) -> Option<Metric> {
-        self.metric_at(interface, k)
+        self.rows[k][interface].metric()
     }
 
     fn heard(&self, interface: usize) -> bool {
         self.heard[interface]
     }
+}
 
+impl<S: BuildHasher> MetricTable for GridTable<S> {
     fn take(
         &mut self,
         plan: &Plan,
@@ -123,9 +111,9 @@ impl<S: BuildHasher + Drop> GridTable<S> {
     /// the log chooses them, so a program hands in one that is seeded at random.
     pub fn with_hasher(alloc: Global, plan: &Plan, hasher: S) -> Result<GridTable<S>, TableError>
         ensures state { IfOk result (λ table.
-            ⟦<GridTable<S> as MetricTable>⟧.state table ≡ new_state plan.now) }
+            ⟦<GridTable<S> as Table>⟧.state table ≡ new_state plan.now) }
         ensures fits { IfOk result (λ table.
-            Fits plan.now (⟦<GridTable<S> as MetricTable>⟧.state table)) }
+            Fits plan.now (⟦<GridTable<S> as Table>⟧.state table)) }
         ensures memory { IfErr result (λ error. error ≡ Memory) }
     {
         let heard = none_heard(alloc, plan.interfaces())?;

@@ -7,47 +7,27 @@ ghost use Rattle.rip_wire.specs.declared.entry.Entry.{Entry};
 ghost use Rattle.rip_plan.specs.Network.{number_of_prefix};
 ghost use Rattle.rip_plan.specs.Relations.{IsGateway, IsPrefix};
 ghost use Rattle.rip_table.specs.Joined.{holds_address, is_foreign, knows_gateway};
-ghost use Rattle.rip_table.specs.State.{IsState, State};
 ghost use Rattle.rip_table.specs.Numbers.{AreNumbers, IsChecked, counted, judged, metric_among};
 
 use crate::error::TableError;
 use crate::limits::MOST_PREFIXES;
 use crate::noted::Noted;
+use crate::table::Table;
 use rip_plan::Plan;
 use rip_wire::{Address, Entry, MOST_ENTRIES, Metric, Prefix};
 
 /// For each entry of a response the number, if any, of its prefix.
 pub(crate) type Numbers = [Option<usize>; MOST_ENTRIES];
 
-/// What a table knows before a response changes it.
-pub(crate) trait KnownMetrics {
-    // What it means.
-    ghost state: { Self → State };
-
-    // Its prefixes differ, there are not too many, and what is shown is a metric.
-    ghost is_state: { (t : Self) → IsState (state t) };
-
-    /// How many prefixes it has.
-    fn count(&self) -> usize
-        ensures { result ≡ length (state self.now).prefixes };
-
-    /// The metric, if any, that an interface showed for the prefix of a number.
-    fn metric_at(&self, interface: usize, k: usize) -> Option<Metric>
-        requires interface { interface < (state self.now).interfaces }
-        requires prefix { k < length (state self.now).prefixes }
-        ensures { (p : Block) → slice_get (state self.now).prefixes k ≡ Some p →
-            result ≡ (state self.now).shows interface p };
-}
-
 /// What an interface showed of the prefix of a number, if it has one.
-fn shown<T: KnownMetrics>(table: &T, interface: usize, number: Option<usize>) -> Option<Metric>
+fn shown<T: Table>(table: &T, interface: usize, number: Option<usize>) -> Option<Metric>
     requires interface { interface < (T.state table.now).interfaces }
     requires number { (k : ℕ) → number ≡ Some k → k < length (T.state table.now).prefixes }
     ensures { (p : Block) → number ≡ number_of_prefix p (T.state table.now).prefixes →
         result ≡ (T.state table.now).shows interface p }
 {
     match number {
-        Some(k) => table.metric_at(interface, k),
+        Some(k) => table.metric(interface, k),
         None => None,
     }
 }
@@ -170,7 +150,7 @@ fn judge(
 
 /// Judges the entries of a response, and answers the first fault; without one, whether some entry
 /// is of a prefix that the interface did not show.
-pub(crate) fn check<T: KnownMetrics>(
+pub(crate) fn check<T: Table>(
     plan: &Plan,
     table: &T,
     numbers: &Numbers,
@@ -183,7 +163,7 @@ pub(crate) fn check<T: KnownMetrics>(
     requires numbers { AreNumbers (T.state table.now).prefixes entries.now numbers.now }
     ensures { IsChecked plan.now interface (T.state table.now) entries.now result }
 {
-    let mut count = table.count();
+    let mut count = table.prefix_count();
     let mut brings = false;
     let mut noted = Noted::new();
     for j in 0..entries.len() {

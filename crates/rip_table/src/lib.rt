@@ -25,7 +25,7 @@ pub use joining::collect;
 pub use limits::MOST_PREFIXES;
 pub use list::ListTable;
 pub use listener::Listener;
-pub use table::MetricTable;
+pub use table::{MetricTable, Table};
 pub use tallies::Tallies;
 pub use tallies::counts::Counts;
 pub use tallies::interface::{InterfaceTally, Refusal};

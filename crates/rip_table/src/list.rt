@@ -12,8 +12,8 @@ mod shown;
 
 use self::shown::Shown;
 use crate::error::TableError;
-use crate::judging::{KnownMetrics, Numbers, check};
-use crate::table::{MetricTable, none_heard};
+use crate::judging::{Numbers, check};
+use crate::table::{MetricTable, Table, none_heard};
 use rip_plan::Plan;
 use rip_wire::{Datagram, Entry, Kind, MOST_ENTRIES, Metric, Prefix};
 use std::alloc::{AllocError, Global};
@@ -155,21 +155,7 @@ fn add_new(
     Ok(())
 }
 
-impl KnownMetrics for ListTable {
-    ghost state = { λ t. list_state t.heard.items t.prefixes.items t.shown.items };
-
-    ghost is_state = { λ t. t.valid };
-
-    fn count(&self) -> usize {
-        self.prefixes.len()
-    }
-
-    fn metric_at(&self, interface: usize, k: usize) -> Option<Metric> {
-        metric_of(self.shown.as_slice(), interface, self.prefixes[k])
-    }
-}
-
-impl MetricTable for ListTable {
+impl Table for ListTable {
     ghost state = { λ t. list_state t.heard.items t.prefixes.items t.shown.items };
 
     ghost is_state = { λ t. t.valid };
@@ -179,7 +165,7 @@ impl MetricTable for ListTable {
     }
 
     fn prefix_count(&self) -> usize {
-        self.count()
+        self.prefixes.len()
     }
 
     fn prefix(&self, k: usize) -> Prefix {
@@ -187,13 +173,15 @@ impl MetricTable for ListTable {
     }
 
     fn metric(&self, interface: usize, k: usize) -> Option<Metric> {
-        self.metric_at(interface, k)
+        metric_of(self.shown.as_slice(), interface, self.prefixes[k])
     }
 
     fn heard(&self, interface: usize) -> bool {
         self.heard[interface]
     }
+}
 
+impl MetricTable for ListTable {
     fn take(
         &mut self,
         plan: &Plan,
@@ -225,9 +213,9 @@ impl ListTable {
     /// The table of a plan in which nothing was heard.
     pub fn new(alloc: Global, plan: &Plan) -> Result<ListTable, TableError>
         ensures state { IfOk result (λ table.
-            ⟦<ListTable as MetricTable>⟧.state table ≡ new_state plan.now) }
+            ⟦<ListTable as Table>⟧.state table ≡ new_state plan.now) }
         ensures fits { IfOk result (λ table.
-            Fits plan.now (⟦<ListTable as MetricTable>⟧.state table)) }
+            Fits plan.now (⟦<ListTable as Table>⟧.state table)) }
         ensures memory { IfErr result (λ error. error ≡ Memory) }
     {
         let prefixes = planned(alloc, plan)?;

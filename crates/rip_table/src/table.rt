@@ -11,10 +11,10 @@ use rip_plan::Plan;
 use rip_wire::{Datagram, Metric, Prefix};
 use std::alloc::{AllocError, Global};
 
-/// What the interfaces of a plan showed: for each interface and prefix a metric or nothing, and
-/// which interfaces were heard. Prefixes are those of the plan, and then others in the order in
-/// which they came.
-pub trait MetricTable {
+/// What the interfaces of a plan show: for each interface and prefix a metric or nothing, and which
+/// interfaces are heard. Prefixes are those of the plan, and then others in the order in which they
+/// came.
+pub trait Table {
     // What it means.
     ghost state: { Self → State };
 
@@ -34,18 +34,21 @@ pub trait MetricTable {
         requires { k < length (state self.now).prefixes }
         ensures { slice_get (state self.now).prefixes k ≡ Some result };
 
-    /// The metric, if any, that an interface showed for the prefix of a number.
+    /// The metric, if any, that an interface shows for the prefix of a number.
     fn metric(&self, interface: usize, k: usize) -> Option<Metric>
         requires interface { interface < (state self.now).interfaces }
         requires prefix { k < length (state self.now).prefixes }
         ensures { (p : Block) → slice_get (state self.now).prefixes k ≡ Some p →
             result ≡ (state self.now).shows interface p };
 
-    /// Whether an interface was heard: whether a response of it was taken.
+    /// Whether an interface is heard: whether a response of it was taken.
     fn heard(&self, interface: usize) -> bool
         requires { interface < (state self.now).interfaces }
         ensures { result ≡ (state self.now).heard interface };
+}
 
+/// A table that joins what it is told.
+pub trait MetricTable: Table {
     /// Takes in a datagram of an interface. A request changes nothing. A response adds the metric
     /// of each entry, or is refused by its first bad entry, and then changes nothing; Memory comes
     /// only for one without a bad entry that brings a pair of interface and prefix.
@@ -55,12 +58,12 @@ pub trait MetricTable {
         interface: usize,
         datagram: &Datagram<'_>,
     ) -> Result<(), TableError>
-        requires fits { Fits plan.now (state self.old) }
+        requires fits { Fits plan.now (Self.state self.old) }
         requires interface { interface < length plan.now.interfaces }
-        ensures takes { Takes plan.now interface (state self.old) (message_of datagram.now)
-            (state self.new) result }
+        ensures takes { Takes plan.now interface (Self.state self.old) (message_of datagram.now)
+            (Self.state self.new) result }
         // It still fits the plan.
-        ensures fits { Fits plan.now (state self.new) };
+        ensures fits { Fits plan.now (Self.state self.new) };
 }
 
 /// The marks of interfaces of which none was heard.

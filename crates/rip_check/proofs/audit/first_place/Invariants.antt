@@ -5,6 +5,6 @@ use Rattle.rip_check.specs.Told.{told}
 
 abbrev pub invariant-loop-prefix : goal.invariant-loop-prefix
 invariant-loop-prefix g l = record {
-  found : IsFirstPlace l.plan (told l.plan (g.T.MetricTable.state l.table)) l.prefix l.found;
+  found : IsFirstPlace l.plan (told l.plan (g.T.Table.state l.table)) l.prefix l.found;
   size : length l.links ≡ length l.plan.links;
 }

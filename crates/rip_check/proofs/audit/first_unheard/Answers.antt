@@ -9,7 +9,7 @@ loop-i-preserved g c = λ j s k d lt at.
       | inl less ↦ c.loop-i.invariant j s k d less at
       | inr big ↦
           let e : j ≡ c.loop-i.i = omega arith in
-          let on : (g.T.MetricTable.state c.args.table.now).heard c.loop-i.i ≡ true = sym c.heard.ensures ∙ c.if-not-heard.false in
+          let on : (g.T.Table.state c.args.table.now).heard c.loop-i.i ≡ true = sym c.heard.ensures ∙ c.if-not-heard.false in
           rw e (rw on refl)
     ]
 

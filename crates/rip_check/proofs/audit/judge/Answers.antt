@@ -7,9 +7,9 @@ use Rattle.rip_check.specs.Told.{told}
 pub returns : goal.returns
 returns g c =
     let n = c.args.plan.now in
-    let shown = (told c.args.plan.now (g.T.MetricTable.state c.args.table.now)) in
+    let shown = (told c.args.plan.now (g.T.Table.state c.args.table.now)) in
     let plan = c.lawful.ensures in
-    let range = in_range_of g.T.MetricTable n c.args.table.now c.requires in
+    let range = in_range_of g.T.Table n c.args.table.now c.requires in
     let v = c.decide.result in
     let is = c.decide.ensures in
     record {

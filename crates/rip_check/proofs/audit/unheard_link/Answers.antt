@@ -14,7 +14,7 @@ returns-then-not-heard-clause-some g c =
     let n = c.args.plan.now in
     let numbers = c.of_router-numbers.result.now in
     let exact = c.of_router-numbers.ensures.exact in
-    let heard = (g.T.MetricTable.state c.args.table.now).heard in
+    let heard = (g.T.Table.state c.args.table.now).heard in
     let own = c.interface-own.result in
     let off : heard (get_or numbers c.loop-i.i-index 0) ≡ false = sym c.heard.ensures ∙ c.if-not-heard.true in
     record {
@@ -28,13 +28,13 @@ returns-then-not-heard-clause-some g c =
 
 pub loop-i-preserved : goal.loop-i-preserved
 loop-i-preserved g c =
-    let heard = (g.T.MetricTable.state c.args.table.now).heard in
+    let heard = (g.T.Table.state c.args.table.now).heard in
     let on : heard (get_or c.of_router-numbers.result.now c.loop-i.i-index 0) ≡ true = sym c.heard.ensures ∙ c.if-not-heard.false in
     each_more c.args.plan.now c.args.router c.of_router-numbers.result.now c.of_router-numbers.ensures.exact (λ j k. IsTrue (heard j)) c.loop-i.i-index
     c.interface-own.result c.interface-own.ensures.is c.loop-i.invariant (rw on refl)
 
 pub returns-clause-none : goal.returns-clause-none
 returns-clause-none g c =
-    let heard = (g.T.MetricTable.state c.args.table.now).heard in
+    let heard = (g.T.Table.state c.args.table.now).heard in
     every c.args.plan.now c.args.router c.of_router-numbers.result.now c.of_router-numbers.ensures.exact
     (λ j k. IsTrue (heard j)) c.loop-i.i-index c.loop-i-test.false c.loop-i.invariant

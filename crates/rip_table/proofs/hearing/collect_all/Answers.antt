@@ -15,7 +15,7 @@ use Rattle.rip_table.proofs.hearing.collect_all.Goals as goal
 pub lines-preserved : goal.lines-preserved
 lines-preserved g c =
     let S = g.R.Source in
-    let state = g.T.MetricTable.state in
+    let state = g.T.Table.state in
     let holds = g.L.Listener.holds in
     let plan = c.args.plan.now in
     let old = c.args.reader.now in
@@ -59,7 +59,7 @@ lines-preserved g c =
 pub returns-in-Err-hear_line-clause-collects : goal.returns-in-Err-hear_line-clause-collects
 returns-in-Err-hear_line-clause-collects g c =
     let S = g.R.Source in
-    let state = g.T.MetricTable.state in
+    let state = g.T.Table.state in
     let holds = g.L.Listener.holds in
     let plan = c.args.plan.now in
     let old = c.args.reader.now in
@@ -95,7 +95,7 @@ returns-in-Err-hear_line-clause-collects g c =
 pub returns-in-Ok-None-clause-collects : goal.returns-in-Ok-None-clause-collects
 returns-in-Ok-None-clause-collects g c =
     let S = g.R.Source in
-    let state = g.T.MetricTable.state in
+    let state = g.T.Table.state in
     let holds = g.L.Listener.holds in
     let plan = c.args.plan.now in
     let old = c.args.reader.now in
@@ -114,7 +114,7 @@ returns-in-Ok-None-clause-collects g c =
     record {
       told = told;
       said = λ was whole begins. said-told c.lines_come_to.ensures plan (state c.args.table.now) (said_to_come (rest_of S.given whole) old) (state c.lines.table) (holds c.args.listener.now)
-          (holds c.lines.listener) (Ok tt) c.lawful.ensures (g.T.MetricTable.is_state c.args.table.now) c.requires.fits (told was whole begins);
+          (holds c.lines.listener) (Ok tt) c.lawful.ensures (g.T.Table.is_state c.args.table.now) c.requires.fits (told was whole begins);
       read = λ was. tt;
       here = tt;
       allocates = λ is. cc is;
@@ -134,7 +134,7 @@ returns-in-Ok-None-clause-collects g c =
 pub returns-in_default-clause-collects : goal.returns-in_default-clause-collects
 returns-in_default-clause-collects g c =
     let S = g.R.Source in
-    let state = g.T.MetricTable.state in
+    let state = g.T.Table.state in
     let holds = g.L.Listener.holds in
     let plan = c.args.plan.now in
     let old = c.args.reader.now in
@@ -173,7 +173,7 @@ returns-in_default-clause-collects g c =
 pub returns-in-TooManyLines-clause-collects : goal.returns-in-TooManyLines-clause-collects
 returns-in-TooManyLines-clause-collects g c =
     let S = g.R.Source in
-    let state = g.T.MetricTable.state in
+    let state = g.T.Table.state in
     let holds = g.L.Listener.holds in
     let plan = c.args.plan.now in
     let old = c.args.reader.now in
@@ -194,7 +194,7 @@ returns-in-TooManyLines-clause-collects g c =
     record {
       told = told;
       said = λ was whole begins. said-told c.lines_come_to.ensures plan (state c.args.table.now) (said_to_come (rest_of S.given whole) old) (state c.lines.table) (holds c.args.listener.now)
-          (holds c.hear_last.new.listener) (c.hear_last.result) c.lawful.ensures (g.T.MetricTable.is_state c.args.table.now) c.requires.fits (told was whole begins);
+          (holds c.hear_last.new.listener) (c.hear_last.result) c.lawful.ensures (g.T.Table.is_state c.args.table.now) c.requires.fits (told was whole begins);
       read = λ was. ends_read c.hear_last.result _ _ c.hear_last.ensures.last;
       here = ends_read c.hear_last.result _ _ c.hear_last.ensures.last;
       allocates = λ is whole begins.

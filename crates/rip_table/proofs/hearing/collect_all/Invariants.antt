@@ -12,7 +12,7 @@ use Rattle.rip_table.proofs.hearing.collect_all.Given as goal
 abbrev pub invariant-lines : goal.invariant-lines
 invariant-lines g l =
     let S = g.R.Source in
-    let state = g.T.MetricTable.state in
+    let state = g.T.Table.state in
     let holds = g.L.Listener.holds in
     record {
       told : has_stopped l.fn.reader ≡ false → OfWhole S.given S.at_end (source_of l.reader) (λ coming.

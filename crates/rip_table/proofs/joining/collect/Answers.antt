@@ -42,11 +42,11 @@ records-preserved g c =
       passed = λ was whole begins.
           let coming = rest_of S.given whole in
           let before = begins_back S.given S.coming S.at_end whole (source_of c.records.reader) (source_of now) h.pulls.went begins in
-          PassedKnown-more capture_of line_of c.args.plan.now (g.T.MetricTable.state c.args.table.now) (log_to_come coming c.args.reader.now) (g.T.MetricTable.state c.records.table)
-          (g.T.MetricTable.state c.join.new.table) (log_to_come coming c.records.reader) (log_to_come coming now) c.in-Ok-Some.record (c.records.invariant.passed was whole before)
+          PassedKnown-more capture_of line_of c.args.plan.now (g.T.Table.state c.args.table.now) (log_to_come coming c.args.reader.now) (g.T.Table.state c.records.table)
+          (g.T.Table.state c.join.new.table) (log_to_come coming c.records.reader) (log_to_come coming now) c.in-Ok-Some.record (c.records.invariant.passed was whole before)
           (h.answers.gives run whole begins) joins;
       went = went_on S.given S.coming S.at_end (source_of c.args.reader.now) (source_of c.records.reader) (source_of now) c.records.invariant.went h.pulls.went;
-      fits = Fits-joined c.args.plan.now (g.T.MetricTable.state c.records.table) (g.T.MetricTable.state c.join.new.table) (capture_of c.in-Ok-Some.record) c.records.invariant.fits joins;
+      fits = Fits-joined c.args.plan.now (g.T.Table.state c.records.table) (g.T.Table.state c.join.new.table) (capture_of c.in-Ok-Some.record) c.records.invariant.fits joins;
       running = h.marks.stopped ∙ sym was_run;
       marks = h.marks.marks refl ∙ c.records.invariant.marks;
       still = λ was. cc (was, was_run);
@@ -64,7 +64,7 @@ records-preserved g c =
 
 pub returns-in-Err-join : goal.returns-in-Err-join
 returns-in-Err-join g c =
-    let state = g.T.MetricTable.state in
+    let state = g.T.Table.state in
     let S = g.R.Source in
     let plan = c.args.plan.now in
     let before = c.records.reader in
@@ -97,7 +97,7 @@ returns-in-Err-join g c =
       joined = record {
         told = told;
         said = λ was whole begins. said_outcome c.refused_logs.ensures.outcome plan old new (log_to_come (rest_of S.given whole) c.args.reader.now) (log_to_come (rest_of S.given whole) after)
-            (Err error) c.lawful.ensures (g.T.MetricTable.is_state c.args.table.now) c.requires (told was whole begins);
+            (Err error) c.lawful.ensures (g.T.Table.is_state c.args.table.now) c.requires (told was whole begins);
         stopped = λ was. cc (was, was_run);
         allocates = λ w. (
           let later = h.answers.onward.1 in let first = inv.lines in omega arith,
@@ -134,8 +134,8 @@ returns-in-Ok-None g c =
     let S = g.R.Source in
     let before = c.records.reader in
     let after = c.next.follows.lender-at-none in
-    let old = g.T.MetricTable.state c.args.table.now in
-    let new = g.T.MetricTable.state c.records.table in
+    let old = g.T.Table.state c.args.table.now in
+    let new = g.T.Table.state c.records.table in
     let told : has_stopped c.args.reader.now ≡ false → OfWhole S.given S.at_end (source_of after)
     (λ coming. ToldOutcome c.args.plan.now old (log_to_come coming c.args.reader.now) new (log_to_come coming after) (Ok tt)) = λ was whole begins.
     let coming = rest_of S.given whole in
@@ -145,7 +145,7 @@ returns-in-Ok-None g c =
       joined = record {
         told = told;
         said = λ was whole begins. said_outcome c.refused_logs.ensures.outcome c.args.plan.now old new (log_to_come (rest_of S.given whole) c.args.reader.now)
-            (log_to_come (rest_of S.given whole) after) (Ok tt) c.lawful.ensures (g.T.MetricTable.is_state c.args.table.now) c.requires (told was whole begins);
+            (log_to_come (rest_of S.given whole) after) (Ok tt) c.lawful.ensures (g.T.Table.is_state c.args.table.now) c.requires (told was whole begins);
         stopped = λ was. cc (was, was_run);
         allocates = tt;
         fits = c.records.invariant.fits;
@@ -171,8 +171,8 @@ returns-in-Err g c =
     let S = g.R.Source in
     let before = c.records.reader in
     let after = c.next.follows.lender-at-none in
-    let old = g.T.MetricTable.state c.args.table.now in
-    let new = g.T.MetricTable.state c.records.table in
+    let old = g.T.Table.state c.args.table.now in
+    let new = g.T.Table.state c.records.table in
     let error : CollectError = record { line = c.in-Err.error.line; cause = OfLog c.in-Err.error } in
     let told : has_stopped c.args.reader.now ≡ false → OfWhole S.given S.at_end (source_of after)
     (λ coming. ToldOutcome c.args.plan.now old (log_to_come coming c.args.reader.now) new (log_to_come coming after) (Err error)) = λ was whole begins.
@@ -183,7 +183,7 @@ returns-in-Err g c =
       joined = record {
         told = told;
         said = λ was whole begins. said_outcome c.refused_logs.ensures.outcome c.args.plan.now old new (log_to_come (rest_of S.given whole) c.args.reader.now)
-            (log_to_come (rest_of S.given whole) after) (Err error) c.lawful.ensures (g.T.MetricTable.is_state c.args.table.now) c.requires (told was whole begins);
+            (log_to_come (rest_of S.given whole) after) (Err error) c.lawful.ensures (g.T.Table.is_state c.args.table.now) c.requires (told was whole begins);
         stopped = λ was. (inv.still was, again c.in-Err.error _ _ (h.answers.ended (inv.running ∙ was)).0 (inv.here was));
         allocates = λ w. cc w;
         fits = inv.fits;

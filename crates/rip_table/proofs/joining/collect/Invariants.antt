@@ -9,7 +9,7 @@ use Rattle.rip_table.proofs.joining.collect.Given as goal
 abbrev pub invariant-records : goal.invariant-records
 invariant-records g l =
     let S = g.R.Source in
-    let state = g.T.MetricTable.state in
+    let state = g.T.Table.state in
     record {
       passed : has_stopped l.fn.reader ≡ false →
           OfWhole S.given S.at_end (source_of l.reader) (λ coming. PassedKnown l.plan (state l.fn.table) (log_to_come coming l.fn.reader) (state l.table) (log_to_come coming l.reader));

@@ -13,21 +13,21 @@ use Rattle.rip_table.proofs.judging.check.Goals as goal
 
 pub shown-shown-requires-clause-number : goal.shown-shown-requires-clause-number
 shown-shown-requires-clause-number g c k h =
-    number-below (g.T.KnownMetrics.state c.args.table.now).prefixes c.args.entries.now c.args.numbers.now c.loop-j.j k c.requires.numbers c.loop-j-test.true h
+    number-below (g.T.Table.state c.args.table.now).prefixes c.args.entries.now c.args.numbers.now c.loop-j.j k c.requires.numbers c.loop-j-test.true h
 
 pub loop-j-init : goal.loop-j-init
 loop-j-init g c =
-    let s = g.T.KnownMetrics.state c.args.table.now in
+    let s = g.T.Table.state c.args.table.now in
     record {
-      checked = subst (Checked c.args.plan.now c.args.interface s c.args.entries.now 0) (sym c.count-count.ensures)
-          (Checked-start c.args.plan.now c.args.interface s c.args.entries.now (g.T.KnownMetrics.is_state c.args.table.now));
+      checked = subst (Checked c.args.plan.now c.args.interface s c.args.entries.now 0) (sym c.prefix_count-count.ensures)
+          (Checked-start c.args.plan.now c.args.interface s c.args.entries.now (g.T.Table.is_state c.args.table.now));
       brings = refl;
       noted = λ p k number some. absurd (cc some);
     }
 
 pub returns-in_err-judge : goal.returns-in_err-judge
 returns-in_err-judge g c =
-    let s = g.T.KnownMetrics.state c.args.table.now in
+    let s = g.T.Table.state c.args.table.now in
     let es = c.args.entries.now in
     let e = c.index-entries-j.result in
     let here = slice_get_read es (length es) c.loop-j.j e refl c.loop-j-test.true c.index-entries-j.is in
@@ -42,7 +42,7 @@ returns-in_err-judge g c =
 
 pub loop-j-preserved : goal.loop-j-preserved
 loop-j-preserved g c =
-    let s = g.T.KnownMetrics.state c.args.table.now in
+    let s = g.T.Table.state c.args.table.now in
     let es = c.args.entries.now in
     let e = c.index-entries-j.result in
     let here = slice_get_read es (length es) c.loop-j.j e refl c.loop-j-test.true c.index-entries-j.is in
@@ -66,7 +66,7 @@ loop-j-preserved g c =
 
 pub known-known-requires-clause-new : goal.known-known-requires-clause-new
 known-known-requires-clause-new g c = λ down e here.
-    let s = g.T.KnownMetrics.state c.args.table.now in
+    let s = g.T.Table.state c.args.table.now in
     let es = c.args.entries.now in
     let number = number-here s.prefixes es c.args.numbers.now c.loop-j.j e c.requires.numbers here in
     new-noted s.prefixes (take c.loop-j.j es) e.prefix
@@ -75,7 +75,7 @@ known-known-requires-clause-new g c = λ down e here.
 
 pub returns : goal.returns
 returns g c =
-    let s = g.T.KnownMetrics.state c.args.table.now in
+    let s = g.T.Table.state c.args.table.now in
     let es = c.args.entries.now in
     let ck = c.loop-j.invariant.checked in
     let all = take-end es c.loop-j.j (omega (arith, c.loop-j-test)) in (

@@ -46,7 +46,7 @@ unwrap-route-requires g c =
     let is = mark_at n s c.args.self.now c.requires.places c.args.router c.args.case.now.prefix c.prefix_count.result c.index.result.now c.prefix_count.ensures c.requires.router c.args.case.now.within
     c.index.ensures in
     let failing = failing_at n s c.args.router c.args.case.now.prefix c.in-Some.equation c.index.result.now c.in-Some.is is in
-    there _ c.read.result c.read.ensures.none (fits_readable n c.lawful.ensures s (in_range_of g.T.MetricTable n c.args.case.now.table.now c.args.case.now.fits) c.args.router c.args.case.now.prefix failing.2.route c.requires.router failing.2.fits)
+    there _ c.read.result c.read.ensures.none (fits_readable n c.lawful.ensures s (in_range_of g.T.Table n c.args.case.now.table.now c.args.case.now.fits) c.args.router c.args.case.now.prefix failing.2.route c.requires.router failing.2.fits)
 
 pub place_of-requires-clause-equation : goal.place_of-requires-clause-equation
 place_of-requires-clause-equation g c =

@@ -17,8 +17,8 @@ loop-prefix-init g c =
 pub loop-prefix-preserved : goal.loop-prefix-preserved
 loop-prefix-preserved g c =
     let n = c.args.plan.now in
-    let shown = (told c.args.plan.now (g.T.MetricTable.state c.args.table.now)) in
-    let count = length (told c.args.plan.now (g.T.MetricTable.state c.args.table.now)).prefixes in
+    let shown = (told c.args.plan.now (g.T.Table.state c.args.table.now)) in
+    let count = length (told c.args.plan.now (g.T.Table.state c.args.table.now)).prefixes in
     let is = c.loop-prefix.invariant in
     let new = c.mark_prefix.new.marks in
     let marked = rw (c.with_links.ensures.plan, c.with_links.ensures.table, c.with_links.ensures.prefix, c.new-case.ensures.plan, c.new-case.ensures.table, c.new-case.ensures.prefix) at c.mark_prefix.ensures in

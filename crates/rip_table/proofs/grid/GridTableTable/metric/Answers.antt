@@ -3,7 +3,7 @@ use Rattle.std.proofs.lemmas.List.{get_or_default}
 use Rattle.rip_table.specs.Rows.{heads, rows_of}
 use Rattle.rip_table.proofs.RowLemmas.{number-listed, row-at, row-width}
 use Rattle.rip_table.proofs.CellLemmas.{cell-at}
-use Rattle.rip_table.proofs.grid.GridTableKnownMetrics.metric_at.Goals as goal
+use Rattle.rip_table.proofs.grid.GridTableTable.metric.Goals as goal
 
 pub index-requires-2 : goal.index-requires-2
 index-requires-2 g c =
