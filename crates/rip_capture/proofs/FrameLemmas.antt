@@ -2,12 +2,13 @@
 use Rattle.std.proofs.Common.{◌≡◌, ◌≢◌, ◌+◌, ◌⊎◌, ◌∙◌, ℕ, true, List, ap, arith, inl, inr, refl, sym}
 use Rattle.std.proofs.lemmas.Bool.{both_ways, false≢true}
 use Rattle.rip_wire.specs.Fields.{number_at}
-use Rattle.rip_capture.specs.Frames.{Holds, HoldsLoop, HoldsTyped, Leads, is_tag}
+use Rattle.rip_capture.specs.Frames.{Holds, HoldsBehind, HoldsLoop, HoldsTyped, Leads, header_of, is_tag}
 use Rattle.rip_capture.specs.Frames.Leads.{ipv4, other, cut, tag}
+use Rattle.rip_capture.specs.declared.frame.LinkHeader.{LinkHeader}
+use Rattle.rip_capture.specs.declared.frame.LinkHeader.TheVariants as headers
 use Rattle.rip_capture.specs.declared.frame.Network.{Network}
 use Rattle.rip_capture.specs.declared.frame.Network.TheVariants.{Ip, Short, Other}
 use Rattle.rip_capture.specs.declared.link.LinkType.{LinkType}
-use Rattle.rip_capture.specs.declared.link.LinkType.TheVariants.{Null, Ethernet, Raw, Loop, LinuxSll, Ipv4, LinuxSll2}
 
 -- the type of IPv4 is no tag's
 no_tag : (kind : ℕ) → kind ≡ 2048 → is_tag kind ≡ true → ⊥
@@ -54,12 +55,12 @@ HoldsLoop-one frame Other (Ip b) h k = absurd (neither _ _ _ k.2 h.1 h.2)
 HoldsLoop-one frame Other Short h k = absurd (omega (arith, h.0, k))
 HoldsLoop-one frame Other Other h k = refl
 
+-- a frame holds one thing behind its header
+HoldsBehind-one : (header : LinkHeader) (frame : List ℕ) (n m : Network) → HoldsBehind header frame n → HoldsBehind header frame m → n ≡ m
+HoldsBehind-one (headers.Typed place header) frame n m h k = HoldsTyped-one frame place header n m h k
+HoldsBehind-one headers.Loop frame n m h k = HoldsLoop-one frame n m h k
+HoldsBehind-one headers.Nothing frame n m h k = h ∙ sym k
+
 -- a frame of a link type holds one thing
 pub Holds-one : (t : LinkType) (frame : List ℕ) (n m : Network) → Holds t frame n → Holds t frame m → n ≡ m
-Holds-one Null frame n m h k = HoldsLoop-one frame n m h k
-Holds-one Ethernet frame n m h k = HoldsTyped-one frame 12 14 n m h k
-Holds-one Raw frame n m h k = h ∙ sym k
-Holds-one Loop frame n m h k = HoldsLoop-one frame n m h k
-Holds-one LinuxSll frame n m h k = HoldsTyped-one frame 14 16 n m h k
-Holds-one Ipv4 frame n m h k = h ∙ sym k
-Holds-one LinuxSll2 frame n m h k = HoldsTyped-one frame 0 20 n m h k
+Holds-one t frame n m h k = HoldsBehind-one (header_of t) frame n m h k

@@ -12,7 +12,7 @@ use Rattle.rip_capture.specs.Feeds.{Keeps, Skips, Takes}
 use Rattle.rip_capture.specs.Finds.{FindsHeader, FindsRecord, IsFound}
 use Rattle.rip_log.proofs.WholeLemmas.{went_on}
 use Rattle.rip_log.specs.Wholes.{Went}
-use Rattle.rip_capture.specs.NextCall.{EndsHere, HasRead, HoldsPacket, IsFar, IsOver, Runs, Stands, StopsAt, TakesPacket, held_by, section_by, source_of}
+use Rattle.rip_capture.specs.NextCall.{EndsHere, HasRead, HoldsPacket, IsFar, IsOver, IsReady, Runs, Stands, StopsAt, TakesPacket, held_by, section_by, source_of}
 use Rattle.rip_capture.specs.Pcap.{Frame, HoldsRecord, IsPcap, RecordFault, frame_in}
 use Rattle.rip_capture.specs.Pcapng.{Section}
 use Rattle.rip_capture.specs.Steps.{Begins, StandsAt, TakesBlock, frame_at, place_at}
@@ -222,7 +222,7 @@ Runs-on {R = R} given coming broken at_end old mid new h result b r = record {
   ready = λ holds.
       let is = begun-is old.format (packet-begun old.format (section_by old) (held_by old) holds) in
       let same = (b.kept is.0 is.1).1 in
-      r.ready (subst (λ (n : CaptureReader R). HoldsPacket n.format (section_by n) (held_by n)) (sym same) holds) ∙ ap (λ (n : CaptureReader R). source_of n) same;
+      r.ready (subst (λ (n : CaptureReader R). IsReady n) (sym same) holds) ∙ ap (λ (n : CaptureReader R). source_of n) same;
 }
 
 -- where it could not be read

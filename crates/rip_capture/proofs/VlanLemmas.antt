@@ -4,7 +4,7 @@ use Rattle.std.proofs.lemmas.Bool.{both_ways, cases_Bool, cases_lt, eq-eqb, eqb-
 use Rattle.std.proofs.lemmas.List.{length-append, length-take-le, take_all}
 use Rattle.std.proofs.Math.Seq.{get_or-append_seam, take-suc}
 use Rattle.rip_wire.specs.Fields.{number_at}
-use Rattle.rip_capture.specs.Frames.{is_tag}
+use Rattle.rip_capture.specs.Frames.{header_of, is_tag}
 use Rattle.rip_capture.specs.Interfaces.{CameBy}
 use Rattle.rip_capture.specs.Origins.{IsOrigin, Origin, header_number}
 use Rattle.rip_capture.specs.Pcap.{Frame}
@@ -87,7 +87,7 @@ from-one (Some place) frame xs ys h k = Vlans-one frame place.0 place.1 xs ys h 
 
 pub origin-one : (p : Frame) (o other : Origin) → IsOrigin p o → IsOrigin p other → o ≡ other
 origin-one p o other h k =
-    let vlans = from-one (type_place p.link_type p.bytes) p.bytes o.vlans other.vlans h.vlans k.vlans in
+    let vlans = from-one (type_place (header_of p.link_type) p.bytes) p.bytes o.vlans other.vlans h.vlans k.vlans in
     let made : CameBy → Option ℕ → List ℕ → Origin = λ i n v. record { interface = i; number = n; vlans = v } in
     ap (λ i. made i o.number o.vlans) (h.interface ∙ sym k.interface) ∙ ap (λ n. made other.interface n o.vlans) (h.number ∙ sym k.number) ∙ ap (made other.interface other.number) vlans
 
@@ -97,5 +97,5 @@ from-some (Some place) frame = some-vlans frame place.0 place.1
 
 pub origin-some : (p : Frame) → (o : Origin) × IsOrigin p o
 origin-some p =
-    let vlans = from-some (type_place p.link_type p.bytes) p.bytes in
+    let vlans = from-some (type_place (header_of p.link_type) p.bytes) p.bytes in
     (record { interface = p.interface; number = header_number p.link_type p.bytes; vlans = vlans.0 }, record { interface = refl; number = refl; vlans = vlans.1 })

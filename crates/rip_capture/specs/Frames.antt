@@ -2,6 +2,8 @@
 use Rattle.std.specs.Prelude.{◌≡◌, ◌≢◌, ◌⊎◌, ◌<◌, ◌≤◌, ◌+◌, ◌==◌, ◌||◌, ℕ, Bool, true, false, List, length}
 use Rattle.rip_wire.specs.Fields.{number_at}
 use Rattle.rip_capture.specs.Numbers.{number_in}
+use Rattle.rip_capture.specs.declared.frame.LinkHeader.{LinkHeader}
+use Rattle.rip_capture.specs.declared.frame.LinkHeader.TheVariants as headers
 use Rattle.rip_capture.specs.declared.frame.Network.{Network}
 use Rattle.rip_capture.specs.declared.frame.Network.TheVariants.{Ip, Short, Other}
 use Rattle.rip_capture.specs.declared.frame.TheConstants.{IPV4, LOOP_HEADER, LOOP_IPV4, TAG}
@@ -42,15 +44,26 @@ HoldsLoop frame Other =
     (LOOP_HEADER ≤ length frame)
     × (number_in Big 0 frame ≢ LOOP_IPV4) × (number_in Little 0 frame ≢ LOOP_IPV4)
 
+-- what stands in front of the packet in frames of a link type: a type at an offset, where what it
+-- names begins at the other one; the number of a loopback; or nothing
+abbrev pub header_of : LinkType → LinkHeader
+header_of Null = headers.Loop
+header_of Ethernet = headers.Typed 12 14
+header_of Raw = headers.Nothing
+header_of Loop = headers.Loop
+header_of LinuxSll = headers.Typed 14 16
+header_of Ipv4 = headers.Nothing
+header_of LinuxSll2 = headers.Typed 0 20
+
+-- what a frame holds behind such a header
+abbrev pub HoldsBehind : LinkHeader → List ℕ → Network → Type 0
+HoldsBehind (headers.Typed place header) frame held = HoldsTyped frame place header held
+HoldsBehind headers.Loop frame held = HoldsLoop frame held
+HoldsBehind headers.Nothing frame held = held ≡ Ip 0
+
 -- what a frame of a link type holds
 abbrev pub Holds : LinkType → List ℕ → Network → Type 0
-Holds Null frame held = HoldsLoop frame held
-Holds Ethernet frame held = HoldsTyped frame 12 14 held
-Holds Raw frame held = held ≡ Ip 0
-Holds Loop frame held = HoldsLoop frame held
-Holds LinuxSll frame held = HoldsTyped frame 14 16 held
-Holds Ipv4 frame held = held ≡ Ip 0
-Holds LinuxSll2 frame held = HoldsTyped frame 0 20 held
+Holds link_type frame held = HoldsBehind (header_of link_type) frame held
 
 -- a packet begins within so many bytes
 abbrev pub BeginsWithin : ℕ → Network → Type 0

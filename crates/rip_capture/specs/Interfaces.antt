@@ -4,7 +4,7 @@ use Rattle.std.specs.List.{slice_get}
 use Rattle.rip_capture.specs.declared.interface.Interface.{Interface}
 use Rattle.rip_capture.specs.declared.interface.KeptInterface.{KeptInterface}
 use Rattle.rip_capture.specs.declared.interface.KeptInterface.TheVariants as kept
-use Rattle.rip_capture.specs.declared.interface.Name.{Name}
+use Rattle.rip_capture.specs.declared.interface.InterfaceName.{InterfaceName}
 use Rattle.rip_capture.specs.declared.limits.TheConstants.{MOST_NAME}
 use Rattle.rip_capture.specs.declared.interface.FileInterface.{FileInterface}
 use Rattle.rip_capture.specs.declared.interface.FileInterface.TheVariants as given
@@ -16,7 +16,7 @@ pub data CameBy : Type 0 where
   Numbered : ℕ → CameBy
 
 -- the bytes of a name
-abbrev pub name_bytes : Name → List ℕ
+abbrev pub name_bytes : InterfaceName → List ℕ
 name_bytes name = take (min name.len MOST_NAME) name.bytes
 
 -- the interface of a number, of those that a section has described

@@ -124,6 +124,10 @@ HoldsPacket None now b = ⊥
 HoldsPacket (Some (Pcap h)) now b = HoldsRecord h.order b
 HoldsPacket (Some Pcapng) now b = HoldsPacketBlock (Some now.order) b
 
+-- a reader holds the next record, or block of a packet
+abbrev pub IsReady : {R : Type 0} → CaptureReader R → Type 0
+IsReady reader = HoldsPacket reader.format (section_by reader) (held_by reader)
+
 -- the call failed since the source did
 abbrev pub is_unreadable : {A : Type 0} → Result A CaptureError → Bool
 is_unreadable (Ok x) = false
@@ -149,7 +153,7 @@ pub record Runs {R X : Type 0} (given : R → List ℕ) (coming : R → Option (
   pub over : result ≡ Ok None → IsOver at_end new
   pub stays_over : IsOver at_end old → result ≡ Ok None
   -- nothing is pulled where the next record, or block of a packet, is held
-  pub ready : HoldsPacket old.format (section_by old) (held_by old) → source_of new ≡ source_of old
+  pub ready : IsReady old → source_of new ≡ source_of old
 
 -- the error of an answer
 abbrev pub error_of : {A : Type 0} → Result A CaptureError → Option CaptureError

@@ -2,7 +2,7 @@
 use Rattle.std.specs.Prelude.{◌≡◌, ◌≢◌, ◌<◌, ◌≤◌, ◌+◌, ◌*◌, ◌/◌, ◌-◌, ◌++◌, ◌==◌, if◌then◌else◌, ℕ, Bool, true, false, List, drop, length, nat_le, replicate, slice_index, slice_range}
 use Rattle.rip_capture.specs.Numbers.{long_in, short_in}
 use Rattle.rip_capture.specs.declared.interface.Interface.{Interface}
-use Rattle.rip_capture.specs.declared.interface.Name.{Name}
+use Rattle.rip_capture.specs.declared.interface.InterfaceName.{InterfaceName}
 use Rattle.rip_capture.specs.declared.limits.TheConstants.{MOST_NAME}
 use Rattle.rip_capture.specs.declared.numbers.Order.{Order}
 
@@ -26,7 +26,7 @@ fits_option number len =
     if number == 9 then len == 1 else if number == 14 then len == 8 else true
 
 -- a name, and zeros behind it; one that is too long is none
-abbrev pub name_of : List ℕ → Name
+abbrev pub name_of : List ℕ → InterfaceName
 name_of value =
     if nat_le (length value) MOST_NAME
     then record { bytes = value ++ replicate (MOST_NAME - length value) 0; len = length value }

@@ -4,7 +4,7 @@ use Rattle.rip_capture.specs.Captures.{IsNext}
 use Rattle.rip_capture.specs.Codes.{is_read}
 use Rattle.rip_capture.specs.Finds.{IsFound}
 use Rattle.rip_capture.specs.Interfaces.{CameBy, Only, came_by}
-use Rattle.rip_capture.specs.NextCall.{EndsHere, HoldsPacket, IsFar, IsOver, Moves, Stands, StopsAt, held_by, position_of, refusal_of, section_by, source_of}
+use Rattle.rip_capture.specs.NextCall.{EndsHere, IsFar, IsOver, IsReady, Moves, Stands, StopsAt, held_by, position_of, refusal_of, section_by, source_of}
 use Rattle.rip_capture.specs.Pcap.{Frame}
 use Rattle.rip_capture.specs.Pcapng.{AreBlocks, BlockFault, Section, order_of}
 use Rattle.rip_log.specs.Feeds.{room}
@@ -138,6 +138,5 @@ pub record Steps {R : Type 0} (given : R → List ℕ) (coming : R → Option (L
   pub over : result ≡ Ok None → IsOver at_end new
   pub stays_over : IsOver at_end old → result ≡ Ok None
   -- nothing is pulled where the next packet is held, and then it is answered, or its fault
-  pub ready : HoldsPacket old.format (section_by old) (held_by old) →
-      (source_of new ≡ source_of old) × (result ≢ Ok (Some Passed))
+  pub ready : IsReady old → (source_of new ≡ source_of old) × (result ≢ Ok (Some Passed))
   pub refusal : refusal_of new ≡ refusal_of old

@@ -1,10 +1,11 @@
 -- The VLANs of a frame's tags (IEEE 802.1Q).
 use Rattle.std.specs.Prelude.{◌≡◌, ◌<◌, ◌≤◌, ◌+◌, ◌%◌, ◌==◌, if◌then◌else◌, nat_le, ℕ, true, false, List, [], ◌∷◌, length, Option, Some, None}
 use Rattle.rip_wire.specs.Fields.{number_at}
-use Rattle.rip_capture.specs.Frames.{is_tag}
+use Rattle.rip_capture.specs.Frames.{header_of, is_tag}
 use Rattle.rip_capture.specs.declared.frame.TheConstants.{TAG}
+use Rattle.rip_capture.specs.declared.frame.LinkHeader.{LinkHeader}
+use Rattle.rip_capture.specs.declared.frame.LinkHeader.TheVariants.{Typed, Loop, Nothing}
 use Rattle.rip_capture.specs.declared.link.LinkType.{LinkType}
-use Rattle.rip_capture.specs.declared.link.LinkType.TheVariants.{Null, Ethernet, Raw, Loop, LinuxSll, Ipv4, LinuxSll2}
 
 -- one VLAN more in front of others; the number 0 is that of none
 abbrev pub with_vlan : ℕ → List ℕ → List ℕ
@@ -22,17 +23,11 @@ pub data HasVlansAt (frame : List ℕ) : ℕ → ℕ → List ℕ → Type 0 whe
       vlans ≡ with_vlan (number_at 2 from frame % 4096) others → HasVlansAt frame at from vlans
 
 -- where the type of a frame stands, and what it names begins, where its header is there
-abbrev pub place_in : ℕ → ℕ → List ℕ → Option (ℕ × ℕ)
-place_in place header frame = if nat_le header (length frame) then Some (place, header) else None
-
-abbrev pub type_place : LinkType → List ℕ → Option (ℕ × ℕ)
-type_place Ethernet frame = place_in 12 14 frame
-type_place LinuxSll frame = place_in 14 16 frame
-type_place LinuxSll2 frame = place_in 0 20 frame
-type_place Null frame = None
-type_place Raw frame = None
+abbrev pub type_place : LinkHeader → List ℕ → Option (ℕ × ℕ)
+type_place (Typed place header) frame =
+    if nat_le header (length frame) then Some (place, header) else None
 type_place Loop frame = None
-type_place Ipv4 frame = None
+type_place Nothing frame = None
 
 -- the same of what has a type, or not
 abbrev pub HasVlansFrom : Option (ℕ × ℕ) → List ℕ → List ℕ → Type 0
@@ -41,4 +36,5 @@ HasVlansFrom (Some at) frame vlans = HasVlansAt frame at.0 at.1 vlans
 
 -- the VLANs of a frame of a link type
 abbrev pub HasVlans : LinkType → List ℕ → List ℕ → Type 0
-HasVlans link_type frame vlans = HasVlansFrom (type_place link_type frame) frame vlans
+HasVlans link_type frame vlans =
+    HasVlansFrom (type_place (header_of link_type) frame) frame vlans

@@ -1,13 +1,13 @@
 //! The blocks of a pcapng file (draft-ietf-opsawg-pcapng, section 3.1).
 
-ghost use Rattle.std.specs.Prelude.{◌≡◌, ◌≢◌, ◌+◌, ◌≤◌, ◌++◌, [], List, ℕ, Ok, None, Some, IfOk, IfSome, MatchOption, Option, true, false, length};
+ghost use Rattle.std.specs.Prelude.{◌≡◌, ◌≢◌, ◌≤◌, [], Decides, List, ℕ, Ok, None, Some, MatchOption, Option, true, false, length};
 ghost use Rattle.rip_log.specs.Wholes.{Went};
 ghost use Rattle.rip_wire.specs.Fields.{number_at};
 ghost use Rattle.rip_capture.specs.Codes.{is_unread};
 ghost use Rattle.rip_log.specs.Feeds.{held};
 ghost use Rattle.rip_capture.specs.Feeds.{Extends, Keeps, Skips};
 ghost use Rattle.rip_capture.specs.Finds.{FindsBlock, FindsNextBlock, FindsNextOrder, FindsOrder, HoldsBlock, HoldsPacketBlock, HoldsWhole, SaysFront};
-ghost use Rattle.rip_capture.specs.Pcapng.{HasLength, HasOrder, begins_section, block_len, front_len, is_read_whole, kind_numbered, kind_of, least_len, order_number};
+ghost use Rattle.rip_capture.specs.Pcapng.{HasOrder, begins_section, front_len, is_read_whole, kind_numbered, kind_of, least_len, order_number};
 
 use crate::error::CaptureCode;
 use crate::limits::{BLOCK_FRONT, MOST_BLOCK, SECTION, SECTION_FRONT};
@@ -315,7 +315,7 @@ pub(crate) fn next_block<R: Source>(
 
 /// Whether a whole block of a packet is held, in a section of a byte order.
 pub(crate) fn holds_packet(order: Order, held: &[u8]) -> bool
-    ensures { result ≡ true → HoldsPacketBlock (Some order) held.now }
+    ensures { Decides result (HoldsPacketBlock (Some order) held.now) }
 {
     if held.len() < SECTION_FRONT {
         return false;

@@ -7,7 +7,7 @@ ghost use Rattle.rip_capture.specs.Pcapng.{IsSectionVersion, interface_in, inter
 
 use crate::blocks::{Block, BlockKind, PacketForm};
 use crate::error::CaptureCode;
-use crate::interface::{FileInterface, Interface, Name};
+use crate::interface::{FileInterface, Interface, InterfaceName};
 use crate::limits::{MILLIONTHS, MOST_CAPTURED, MOST_INTERFACES};
 use crate::link::LinkType;
 use crate::numbers::{Order, number_in, short_in};
@@ -197,7 +197,7 @@ fn interface_in(order: Order, bytes: &[u8]) -> Interface
     Interface {
         link_number: u32::from(short_in(order, bytes, 8)),
         most: number_in(order, bytes, 12),
-        name: Name::none(),
+        name: InterfaceName::none(),
         resolution: MILLIONTHS,
         offset: 0,
     }

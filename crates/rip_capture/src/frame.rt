@@ -1,10 +1,21 @@
 //! What a frame holds behind its link's header.
 
 ghost use Rattle.std.specs.Prelude.{◌≡◌, ◌+◌, ◌≤◌, length};
-ghost use Rattle.rip_capture.specs.Frames.{BeginsWithin, Holds, HoldsLoop, HoldsTyped, is_tag};
+ghost use Rattle.rip_capture.specs.Frames.{BeginsWithin, Holds, HoldsLoop, HoldsTyped, header_of, is_tag};
 
 use crate::link::LinkType;
 use crate::numbers::{Order, number_in, u16_at};
+
+/// What stands in front of a frame's packet.
+#[derive(Clone, Copy)]
+pub enum LinkHeader {
+    /// A type at an offset, where what it names begins at the other one.
+    Typed(usize, usize),
+    /// The number of a loopback.
+    Loop,
+    /// Nothing, in front of IPv4.
+    Nothing,
+}
 
 /// What a frame holds.
 #[derive(Clone, Copy)]
@@ -78,16 +89,27 @@ fn read_loop(frame: &[u8]) -> Network
     }
 }
 
+/// What stands in front of the packet in frames of a link type.
+pub(crate) fn header_of(link_type: LinkType) -> LinkHeader
+    ensures { result ≡ header_of link_type }
+{
+    match link_type {
+        LinkType::Ethernet => LinkHeader::Typed(12, 14),
+        LinkType::LinuxSll => LinkHeader::Typed(14, 16),
+        LinkType::LinuxSll2 => LinkHeader::Typed(0, 20),
+        LinkType::Null | LinkType::Loop => LinkHeader::Loop,
+        LinkType::Raw | LinkType::Ipv4 => LinkHeader::Nothing,
+    }
+}
+
 /// What a frame of a link type holds.
 pub(crate) fn network_of(link_type: LinkType, frame: &[u8]) -> Network
     ensures holds { Holds link_type frame.now result }
     ensures within { BeginsWithin (length frame.now) result }
 {
-    match link_type {
-        LinkType::Null | LinkType::Loop => read_loop(frame),
-        LinkType::Ethernet => read_typed(frame, 12, 14),
-        LinkType::LinuxSll => read_typed(frame, 14, 16),
-        LinkType::LinuxSll2 => read_typed(frame, 0, 20),
-        LinkType::Raw | LinkType::Ipv4 => Network::Ip(0),
+    match header_of(link_type) {
+        LinkHeader::Typed(place, header) => read_typed(frame, place, header),
+        LinkHeader::Loop => read_loop(frame),
+        LinkHeader::Nothing => Network::Ip(0),
     }
 }

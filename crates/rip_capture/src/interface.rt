@@ -11,43 +11,43 @@ pub enum FileInterface<'a> {
     Only,
     /// By the name in its description, of 1 to 64 bytes (draft-ietf-opsawg-pcapng, section 4.2,
     /// if_name).
-    Named(&'a Name),
+    Named(&'a InterfaceName),
     /// By its number in its section, where its description has no such name.
     Numbered(usize),
 }
 
-/// The name of an interface, of 1 to 64 bytes, or none.
+/// The name of an interface, of 1 to 64 bytes, or none, which has no bytes.
 #[derive(Clone, Copy, Debug)]
-pub struct Name {
+pub struct InterfaceName {
     /// Its bytes, and zeros behind them.
-    pub bytes: [u8; MOST_NAME],
-    pub len: usize,
+    pub(crate) bytes: [u8; MOST_NAME],
+    pub(crate) len: usize,
 }
 
-impl Name {
+impl InterfaceName {
     ghost use Rattle.rip_capture.specs.Interfaces.{name_bytes};
     ghost use Rattle.rip_capture.specs.Options.{name_of};
 
     /// No name.
-    pub fn none() -> Name
+    pub(crate) fn none() -> InterfaceName
         ensures { result ≡ name_of [] }
     {
-        Name {
+        InterfaceName {
             bytes: [0; MOST_NAME],
             len: 0,
         }
     }
 
     /// The name that these bytes are, or none.
-    pub fn of(value: &[u8]) -> Name
+    pub(crate) fn of(value: &[u8]) -> InterfaceName
         ensures { result ≡ name_of value.now }
     {
         if value.len() > MOST_NAME {
-            return Name::none();
+            return InterfaceName::none();
         }
         let mut bytes = [0; MOST_NAME];
         bytes[..value.len()].copy_from_slice(value);
-        Name {
+        InterfaceName {
             bytes,
             len: value.len(),
         }
@@ -61,9 +61,9 @@ impl Name {
     }
 }
 
-impl Default for Name {
-    fn default() -> Name {
-        Name::none()
+impl Default for InterfaceName {
+    fn default() -> InterfaceName {
+        InterfaceName::none()
     }
 }
 
@@ -75,7 +75,7 @@ pub struct Interface {
     /// The most bytes of a packet that it captures, or 0.
     pub most: u32,
     /// Its name.
-    pub name: Name,
+    pub name: InterfaceName,
     /// The unit of its times.
     pub resolution: u8,
     /// The seconds that are added to its times.
@@ -100,7 +100,7 @@ impl FileInterface<'_> {
 #[derive(Clone, Copy)]
 pub enum KeptInterface {
     Only,
-    Named(Name),
+    Named(InterfaceName),
     Numbered(usize),
 }
 

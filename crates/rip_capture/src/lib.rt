@@ -25,8 +25,8 @@ mod vlans;
 
 pub use authentication::entries_in;
 pub use error::{CaptureCode, CaptureError};
-pub use interface::FileInterface;
-pub use limits::{GROUP, MOST_CAPTURED, MOST_PAYLOAD, PORT};
+pub use interface::{FileInterface, InterfaceName};
+pub use limits::{GROUP, MOST_CAPTURED, MOST_NAME, MOST_PAYLOAD, PORT};
 pub use link::LinkType;
 pub use origin::FirstOrigin;
 pub use packet::{Carried, read_frame};

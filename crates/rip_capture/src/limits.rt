@@ -48,7 +48,7 @@ pub(crate) const SECTION_FRONT: usize = 12;
 pub(crate) const MOST_BLOCK: usize = 524_288;
 
 /// The most bytes of the name of an interface: one that is longer is none.
-pub(crate) const MOST_NAME: usize = 64;
+pub const MOST_NAME: usize = 64;
 
 /// The unit of times of an interface that says none: a millionth of a second.
 pub(crate) const MILLIONTHS: u8 = 6;

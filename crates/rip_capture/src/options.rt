@@ -1,11 +1,11 @@
 //! The options of an interface (draft-ietf-opsawg-pcapng, sections 3.5 and 4.2).
 
-ghost use Rattle.std.specs.Prelude.{◌≡◌, ◌+◌, ◌<◌, ◌≤◌, ℕ, List, IfOk, IfErr, drop, length, true};
+ghost use Rattle.std.specs.Prelude.{◌≡◌, ◌<◌, IfOk, IfErr, length, true};
 ghost use Rattle.rip_capture.specs.Options.{Describes, HasBadOption, fits_option, option_size, with_option};
 ghost use Rattle.rip_capture.specs.declared.error.CaptureCode.TheVariants.{Length};
 
 use crate::error::CaptureCode;
-use crate::interface::{Interface, Name};
+use crate::interface::{Interface, InterfaceName};
 use crate::numbers::{Order, long_in, short_in};
 
 /// The bytes of an option in front of its value: its number and its length.
@@ -37,7 +37,7 @@ fn with_option(order: Order, interface: Interface, number: u16, value: &[u8]) ->
 {
     match number {
         2 => Interface {
-            name: Name::of(value),
+            name: InterfaceName::of(value),
             ..interface
         },
         9 => Interface {

@@ -1,9 +1,8 @@
 //! Where captured packets come from.
 
-ghost use Rattle.std.specs.Prelude.{◌≡◌, ◌≤◌, Decides, None, IfOk, length, true};
+ghost use Rattle.std.specs.Prelude.{◌≡◌, ◌≤◌, None, IfOk, length, true};
 ghost use Rattle.rip_capture.specs.NextCall.{frame_of};
-ghost use Rattle.rip_capture.specs.Origins.{Admits, IsOrigin, header_number, origin_in};
-ghost use Rattle.rip_capture.specs.Vlans.{HasVlans};
+ghost use Rattle.rip_capture.specs.Origins.{Admits, header_number, origin_in};
 ghost use Rattle.rip_capture.specs.declared.limits.TheConstants.{MOST_CAPTURED};
 
 pub use crate::first::FirstOrigin;

@@ -1,6 +1,6 @@
 //! The packets of a capture file, one after the other.
 
-ghost use Rattle.std.specs.Prelude.{◌≡◌, ◌≢◌, ◌<◌, ◌≤◌, ◌^◌, [], ℕ, List, Ok, Option, None, Some, true, length, IfErr, IfOk, IfSome};
+ghost use Rattle.std.specs.Prelude.{◌≡◌, ◌≢◌, ◌<◌, ◌≤◌, ◌^◌, [], ℕ, Decides, List, Ok, Option, None, Some, true, length, IfErr, IfOk, IfSome};
 ghost use Rattle.std.specs.Borrow.{sem};
 ghost use Rattle.std.specs.Io.BufRead.{Rests};
 
@@ -75,7 +75,7 @@ pub struct CaptureReader<R> {
 
 impl<R: Source> CaptureReader<R> {
     ghost use Rattle.rip_capture.specs.contracts.reader.CaptureReader.{the_row};
-    ghost use Rattle.rip_capture.specs.NextCall.{HoldsPacket, IsFar, NextCall, Runs, Stands, is_unreadable, frame_of, held_by, place_of, position_of, refusal_of, section_by, source_of};
+    ghost use Rattle.rip_capture.specs.NextCall.{IsFar, IsReady, NextCall, Runs, Stands, is_unreadable, frame_of, held_by, place_of, position_of, refusal_of, source_of};
     ghost use Rattle.rip_capture.specs.Pcap.{Frame, IsMagic};
     ghost use Rattle.rip_capture.specs.Pcapng.{Section, begins_section, is_read_whole, least_len};
     ghost use Rattle.rip_capture.specs.Steps.{Begins, GoesOn, IsGood, IsGoodStep, StandsAt, Steps, TakesSo, frame_at, place_at};
@@ -355,8 +355,7 @@ impl<R: Source> CaptureReader<R> {
 
     /// Whether the next record, or block of a packet, is held, so that `next` pulls nothing.
     pub fn is_ready(&self) -> bool
-        ensures { result ≡ true →
-            HoldsPacket self.now.format (section_by self.now) (held_by self.now) }
+        ensures { Decides result (IsReady self.now) }
     {
         match self.format {
             None => false,

@@ -1,28 +1,23 @@
 //! The VLANs of a frame (IEEE 802.1Q).
 
-ghost use Rattle.std.specs.Prelude.{◌≡◌, ◌+◌, ◌*◌, ◌%◌, ◌≤◌, ◌++◌, Decides, ℕ, List, length, take};
+ghost use Rattle.std.specs.Prelude.{◌≡◌, ◌+◌, ◌*◌, ◌%◌, ◌≤◌, Decides, IfSome, length, take};
 ghost use Rattle.rip_wire.specs.Fields.{number_at};
+ghost use Rattle.rip_capture.specs.Frames.{header_of};
 ghost use Rattle.rip_capture.specs.Vlans.{HasVlans, HasVlansAt, type_place};
 
-use crate::frame::{TAG, is_tag};
+use crate::frame::{LinkHeader, TAG, header_of, is_tag};
 use crate::link::LinkType;
 use crate::numbers::u16_at;
 
 /// Where the type of a frame stands, and what it names begins, where its header is there whole and
 /// has a type.
 fn type_place(link_type: LinkType, frame: &[u8]) -> Option<(usize, usize)>
-    ensures { result ≡ type_place link_type frame.now }
+    ensures place { result ≡ type_place (header_of link_type) frame.now }
+    ensures behind { IfSome result (λ at. at.0 + 2 ≤ at.1) }
 {
-    let (place, header) = match link_type {
-        LinkType::Ethernet => (12, 14),
-        LinkType::LinuxSll => (14, 16),
-        LinkType::LinuxSll2 => (0, 20),
-        LinkType::Null | LinkType::Loop | LinkType::Raw | LinkType::Ipv4 => return None,
-    };
-    if header <= frame.len() {
-        Some((place, header))
-    } else {
-        None
+    match header_of(link_type) {
+        LinkHeader::Typed(place, header) if header <= frame.len() => Some((place, header)),
+        _ => None,
     }
 }
 

@@ -2,7 +2,7 @@ use Rattle.std.proofs.Common.{◌∙◌, ap, arith, refl, subst, sym}
 use Rattle.std.proofs.lemmas.Bool.{false≢true}
 use Rattle.rip_log.proofs.WholeLemmas.{went_on}
 use Rattle.rip_capture.proofs.ReaderLemmas.{TakesPacket-block}
-use Rattle.rip_capture.specs.NextCall.{HoldsPacket, IsOver, held_by, section_by, source_of}
+use Rattle.rip_capture.specs.NextCall.{IsOver, IsReady, source_of}
 use Rattle.rip_capture.specs.declared.reader.CaptureReader.{CaptureReader}
 use Rattle.rip_capture.proofs.reader.CaptureReader.read_blocks.Goals as goal
 
@@ -25,7 +25,7 @@ returns-in-Ok-Some-Packet-clause-runs g c =
       stays_over = λ o. let over = steps.stays_over (subst (λ (r : CaptureReader g.row.R.Denot). IsOver S.at_end r) (sym (inv.over o)) o) in cc over;
       ready = λ holds.
           let same = inv.ready holds in
-          (steps.ready (subst (λ (r : CaptureReader g.row.R.Denot). HoldsPacket r.format (section_by r) (held_by r)) (sym same) holds)).0 ∙ ap (λ (r : CaptureReader g.row.R.Denot). source_of r) same;
+          (steps.ready (subst (λ (r : CaptureReader g.row.R.Denot). IsReady r) (sym same) holds)).0 ∙ ap (λ (r : CaptureReader g.row.R.Denot). source_of r) same;
     }
 
 pub returns-in-Err-clause-runs : goal.returns-in-Err-clause-runs
@@ -45,7 +45,7 @@ returns-in-Err-clause-runs g c =
       stays_over = λ o. let over = steps.stays_over (subst (λ (r : CaptureReader g.row.R.Denot). IsOver S.at_end r) (sym (inv.over o)) o) in cc over;
       ready = λ holds.
           let same = inv.ready holds in
-          (steps.ready (subst (λ (r : CaptureReader g.row.R.Denot). HoldsPacket r.format (section_by r) (held_by r)) (sym same) holds)).0 ∙ ap (λ (r : CaptureReader g.row.R.Denot). source_of r) same;
+          (steps.ready (subst (λ (r : CaptureReader g.row.R.Denot). IsReady r) (sym same) holds)).0 ∙ ap (λ (r : CaptureReader g.row.R.Denot). source_of r) same;
     }
 
 pub returns-in-Ok-None-clause-runs : goal.returns-in-Ok-None-clause-runs
@@ -65,7 +65,7 @@ returns-in-Ok-None-clause-runs g c =
       stays_over = λ o. refl;
       ready = λ holds.
           let same = inv.ready holds in
-          (steps.ready (subst (λ (r : CaptureReader g.row.R.Denot). HoldsPacket r.format (section_by r) (held_by r)) (sym same) holds)).0 ∙ ap (λ (r : CaptureReader g.row.R.Denot). source_of r) same;
+          (steps.ready (subst (λ (r : CaptureReader g.row.R.Denot). IsReady r) (sym same) holds)).0 ∙ ap (λ (r : CaptureReader g.row.R.Denot). source_of r) same;
     }
 
 pub next_blocks-smaller : goal.next_blocks-smaller

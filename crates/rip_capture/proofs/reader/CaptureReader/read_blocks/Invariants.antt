@@ -1,6 +1,6 @@
 use Rattle.std.proofs.Common.{◌≡◌, ◌-◌, ◌^◌, ℕ, List, Some}
 use Rattle.rip_log.specs.Wholes.{Went}
-use Rattle.rip_capture.specs.NextCall.{HoldsPacket, IsOver, Stands, held_by, position_of, refusal_of, section_by, source_of}
+use Rattle.rip_capture.specs.NextCall.{IsOver, IsReady, Stands, position_of, refusal_of, source_of}
 use Rattle.rip_capture.specs.Pcap.{Frame}
 use Rattle.rip_capture.specs.declared.reader.Format.TheVariants.{Pcapng}
 use Rattle.rip_capture.proofs.reader.CaptureReader.read_blocks.Given as goal
@@ -15,7 +15,7 @@ invariant-next_blocks g l =
       format : l.self.format ≡ Some Pcapng;
       refusal : refusal_of l.self ≡ refusal_of l.fn.self;
       over : IsOver S.at_end l.fn.self → l.self ≡ l.fn.self;
-      ready : HoldsPacket l.fn.self.format (section_by l.fn.self) (held_by l.fn.self) → l.self ≡ l.fn.self;
+      ready : IsReady l.fn.self → l.self ≡ l.fn.self;
     }
 
 abbrev pub decreases-next_blocks : goal.decreases-next_blocks
