@@ -26,7 +26,7 @@ use Rattle.rip_report.specs.Outs.{Adds, Progress}
 use Rattle.rip_report.specs.Sent.{SinkState, sink_state}
 use Rattle.rip_report.specs.LineTimes.{span_of}
 use Rattle.rip_report.specs.CaptureText.{AreCarriers, comment_line, counted_status, line_count, packet_lines}
-use Rattle.rip_report.specs.Selections.{Carrier, Choice, Part}
+use Rattle.rip_report.specs.Selections.{Carrier, Part, Selection}
 use Rattle.rip_report.specs.Statuses.{fault_line_of}
 use Rattle.rip_report.specs.Written.{line}
 use Rattle.rip_report.specs.declared.captures.manner.Manner.{Manner}
@@ -59,9 +59,9 @@ no-frames [] e = refl
 no-frames (c ∷ cs) e = cc e
 
 -- what was read of a file is a beginning of it
-begins-read : (how : Manner) (choice : Choice) (cs : List Carrier) (bytes front rest : List ℕ) → AreCarriers how choice cs → IsRead front (map (λ c. c.frame) cs) → bytes ≡ front ++ rest → BeginsWith how choice bytes cs
-begins-read how choice cs bytes front rest carry (nothing_read empty none_of) split = none (no-frames cs none_of)
-begins-read how choice cs bytes front rest carry (capture_read is) split = some front rest split (record { capture = is; are = carry })
+begins-read : (how : Manner) (selection : Selection) (cs : List Carrier) (bytes front rest : List ℕ) → AreCarriers how selection cs → IsRead front (map (λ c. c.frame) cs) → bytes ≡ front ++ rest → BeginsWith how selection bytes cs
+begins-read how selection cs bytes front rest carry (nothing_read empty none_of) split = none (no-frames cs none_of)
+begins-read how selection cs bytes front rest carry (capture_read is) split = some front rest split (record { capture = is; are = carry })
 
 module _ {R : Type 0} (given : R → List ℕ) (at_end : R → Bool) (before bytes : List ℕ) (reader : CaptureReader R)
     (text : Begins (before ++ bytes) (given (source_of reader)) (at_end (source_of reader))) where
@@ -78,8 +78,8 @@ module _ {R : Type 0} (given : R → List ℕ) (at_end : R → Bool) (before byt
       ∙ ap (λ l. h.file ++ l) h.all ∙ append-nil h.file
 
   -- what was read is a beginning of the file
-  begins-by : (how : Manner) (choice : Choice) (cs : List Carrier) (front rest : List ℕ) → AreCarriers how choice cs → IsRead front (map (λ c. c.frame) cs) → given (source_of reader) ≡ before ++ front ++ rest → BeginsWith how choice bytes cs
-  begins-by how choice cs front rest carry read gave = begins-read how choice cs bytes front (rest ++ text.left) carry read (split-by front rest gave ∙ append_assoc front rest text.left)
+  begins-by : (how : Manner) (selection : Selection) (cs : List Carrier) (front rest : List ℕ) → AreCarriers how selection cs → IsRead front (map (λ c. c.frame) cs) → given (source_of reader) ≡ before ++ front ++ rest → BeginsWith how selection bytes cs
+  begins-by how selection cs front rest carry read gave = begins-read how selection cs bytes front (rest ++ text.left) carry read (split-by front rest gave ∙ append_assoc front rest text.left)
 
   -- a file that is refused by its fault
   fault-by : Early → (frames : List Frame) (front rest : List ℕ) (code : CaptureCode) (at : ℕ) → given (source_of reader) ≡ before ++ front ++ rest → CaptureFault (front ++ rest) frames code at
@@ -102,24 +102,24 @@ module _ {R : Type 0} (given : R → List ℕ) (at_end : R → Bool) (before byt
     by_code NoRead found ended = later NoRead (λ e. cc e) found
 
   -- a file that is refused since the log has no room
-  many-by : (how : Manner) (choice : Choice) (lines : ℕ) (cs : List Carrier) (at : ℕ) (out : Progress) → AreCarriers how choice cs →
-      EndsSo given at_end how choice before lines cs reader out (Refused TooManyLines at)
-      → IsRefusedAt how choice lines bytes cs TooManyLines at
-  many-by how choice lines cs at out carry (count, inl (next, is, logged, takes, has, timed)) =
+  many-by : (how : Manner) (selection : Selection) (lines : ℕ) (cs : List Carrier) (at : ℕ) (out : Progress) → AreCarriers how selection cs →
+      EndsSo given at_end how selection before lines cs reader out (Refused TooManyLines at)
+      → IsRefusedAt how selection lines bytes cs TooManyLines at
+  many-by how selection lines cs at out carry (count, inl (next, is, logged, takes, has, timed)) =
       packet takes.front takes.bytes (held_by reader ++ text.left) next
       (record { before = record { capture = takes.right; are = carry }; longer = subst (λ (fs : List Frame). IsCapture (takes.front ++ takes.bytes) fs) (sym (frames-snoc cs next)) takes.longer; behind = takes.next; carries = is; logged = logged })
       (split-at (takes.front ++ takes.bytes) (map (λ c. c.frame) cs ++ next.frame ∷ []) takes.stands ∙ append_assoc (takes.front ++ takes.bytes) (held_by reader) text.left)
       has timed count takes.place_is refl
-  many-by how choice lines cs at out carry (count, inr (here, place)) =
+  many-by how selection lines cs at out carry (count, inr (here, place)) =
       let is = whole-is (map (λ c. c.frame) cs) here in
       comment (record { capture = subst (λ l. IsCapture l (map (λ c. c.frame) cs)) (sym is) here.right; are = carry })
       count (place ∙ here.stands.position ∙ ap length (sym is)) refl
 
   -- a file that is refused since a packet has no time
-  timeless-by : (how : Manner) (choice : Choice) (lines : ℕ) (cs : List Carrier) (at : ℕ) (out : Progress) → AreCarriers how choice cs → lines + line_count cs ≤ 1000000 →
-      EndsSo given at_end how choice before lines cs reader out (Refused Time at)
-      → IsRefusedAt how choice lines bytes cs Time at
-  timeless-by how choice lines cs at out carry few (next, is, logged, takes, lacks) =
+  timeless-by : (how : Manner) (selection : Selection) (lines : ℕ) (cs : List Carrier) (at : ℕ) (out : Progress) → AreCarriers how selection cs → lines + line_count cs ≤ 1000000 →
+      EndsSo given at_end how selection before lines cs reader out (Refused Time at)
+      → IsRefusedAt how selection lines bytes cs Time at
+  timeless-by how selection lines cs at out carry few (next, is, logged, takes, lacks) =
       timeless takes.front takes.bytes (held_by reader ++ text.left) next
       (record { before = record { capture = takes.right; are = carry }; longer = subst (λ (fs : List Frame). IsCapture (takes.front ++ takes.bytes) fs) (sym (frames-snoc cs next)) takes.longer; behind = takes.next; carries = is; logged = logged })
       (split-at (takes.front ++ takes.bytes) (map (λ c. c.frame) cs ++ next.frame ∷ []) takes.stands ∙ append_assoc (takes.front ++ takes.bytes) (held_by reader) text.left)
@@ -147,8 +147,8 @@ module _ {K : Type 0} (taken : K → Taken) (broken : K → Bool) (old new : K) 
 module _ {R K : Type 0} (given : R → List ℕ) (at_end : R → Bool) (start bytes : List ℕ) (reader : CaptureReader R)
     (text : Begins (start ++ bytes) (given (source_of reader)) (at_end (source_of reader)))
     (taken : K → Taken) (broken : K → Bool) (old new : K) (before after : CaptureLog) (part : Part) (out : Progress) (early : Early) (captures : ReadCaptures)
-    (cs : List Carrier) (carry : AreCarriers before.manner part.choice cs) (few : before.lines + line_count cs ≤ 1000000) where
-  pub adds-file : (ending : Ending) (result : Result Status RunError) → EndsSo given at_end before.manner part.choice start before.lines cs reader out ending
+    (cs : List Carrier) (carry : AreCarriers before.manner part.selection cs) (few : before.lines + line_count cs ≤ 1000000) where
+  pub adds-file : (ending : Ending) (result : Result Status RunError) → EndsSo given at_end before.manner part.selection start before.lines cs reader out ending
       → ClosesFile (sink_state taken broken old) (sink_state taken broken new) before after part.link (packet_lines before.manner part.link cs) ending result → AddsFile taken broken old new before after part bytes result
   adds-file (Whole tally) result (here, counts, count, room, span) (ends, answers, follows) =
       let is = whole-is given at_end start bytes reader text (map (λ c. c.frame) cs) here in
@@ -161,15 +161,15 @@ module _ {R K : Type 0} (given : R → List ℕ) (at_end : R → Bool) (start by
       (refused cs (Capture code) at (fault code found carry few refl) refl refl) (not-followed taken broken old new before after part bytes _ 0 _ result (inl refl) ends same)
   adds-file (Refused TooManyLines at) result ends_so (ends, same) =
       adds-text taken broken old new before after part bytes _ 0 _ result ends
-      (refused cs TooManyLines at (many-by given at_end start bytes reader text before.manner part.choice before.lines cs at out carry ends_so) refl refl)
+      (refused cs TooManyLines at (many-by given at_end start bytes reader text before.manner part.selection before.lines cs at out carry ends_so) refl refl)
       (not-followed taken broken old new before after part bytes _ 0 _ result (inl refl) ends same)
   adds-file (Refused Time at) result ends_so (ends, same) =
       adds-text taken broken old new before after part bytes _ 0 _ result ends
-      (refused cs Time at (timeless-by given at_end start bytes reader text before.manner part.choice before.lines cs at out carry few ends_so) refl refl)
+      (refused cs Time at (timeless-by given at_end start bytes reader text before.manner part.selection before.lines cs at out carry few ends_so) refl refl)
       (not-followed taken broken old new before after part bytes _ 0 _ result (inl refl) ends same)
   adds-file Unread result (error, stops, failed) (ends, same) =
       adds-text taken broken old new before after part bytes _ 0 _ result ends
-      (unread cs (begins-by given at_end start bytes reader text before.manner part.choice cs stops.front stops.rest carry stops.read stops.gave) few refl refl)
+      (unread cs (begins-by given at_end start bytes reader text before.manner part.selection cs stops.front stops.rest carry stops.read stops.gave) few refl refl)
       (not-followed taken broken old new before after part bytes _ 0 _ result (inr refl) ends same)
   adds-file Unwritten result (failed, (so_far, stands)) (is, sink, began, same) = record {
     text = λ h. absurd (h is);
@@ -178,7 +178,7 @@ module _ {R K : Type 0} (given : R → List ℕ) (at_end : R → Bool) (start by
       (
         packet_lines before.manner part.link cs,
         some_packets cs
-            (begins-by given at_end start bytes reader text before.manner part.choice cs so_far (held_by reader) carry
+            (begins-by given at_end start bytes reader text before.manner part.selection cs so_far (held_by reader) carry
             (captures reader.format (section_by reader) so_far (map (λ c. c.frame) cs) stands.read) stands.gave) few refl,
         began,
       ),
@@ -208,9 +208,9 @@ never-memory taken broken old new before after link text Unread result (ends, sa
 never-memory taken broken old new before after link text Unwritten result (is, sink, began, same) e = cc (is, e)
 
 module _ {R : Type 0} (given : R → List ℕ) (at_end : R → Bool) (start bytes : List ℕ) (reader : CaptureReader R)
-    (text : Begins (start ++ bytes) (given (source_of reader)) (at_end (source_of reader))) (how : Manner) (choice : Choice) (lines : ℕ) (out : Progress) (cs : List Carrier) where
+    (text : Begins (start ++ bytes) (given (source_of reader)) (at_end (source_of reader))) (how : Manner) (selection : Selection) (lines : ℕ) (out : Progress) (cs : List Carrier) where
   -- or the file is longer than offsets go
-  pub far-bytes : EndsSo given at_end how choice start lines cs reader out Unread → IsFar reader → 2 ^ 64 ≤ length bytes + 2 ^ 32
+  pub far-bytes : EndsSo given at_end how selection start lines cs reader out Unread → IsFar reader → 2 ^ 64 ≤ length bytes + 2 ^ 32
   far-bytes (error, stops, failed) far =
       let is = split-by given at_end start bytes reader text stops.front stops.rest stops.gave in
       let size : length bytes ≡ length stops.front + length (stops.rest ++ text.left) =
@@ -220,14 +220,14 @@ module _ {R : Type 0} (given : R → List ℕ) (at_end : R → Bool) (start byte
 -- what went out where the source failed has each packet that it gave whole
 pub adds-unread : {R K : Type 0} (given : R → List ℕ) (at_end : R → Bool) (start bytes : List ℕ) (reader : CaptureReader R) (taken : K → Taken) (broken : K → Bool) (old new : K)
     (before after : CaptureLog) (part : Part) (lines : ℕ) (out : Progress) (cs : List Carrier)
-    → AreCarriers before.manner part.choice cs → given (source_of reader) ≡ start ++ bytes → EndsSo given at_end before.manner part.choice start lines cs reader out Unread → (result : Result Status RunError)
+    → AreCarriers before.manner part.selection cs → given (source_of reader) ≡ start ++ bytes → EndsSo given at_end before.manner part.selection start lines cs reader out Unread → (result : Result Status RunError)
     → ClosesFile (sink_state taken broken old) (sink_state taken broken new) before after part.link (packet_lines before.manner part.link cs) Unread result
     → result ≡ Err Read → AddsUnread taken old new before.manner part bytes
 adds-unread given at_end start bytes reader taken broken old new before after part lines out cs carry gave (error, stops, failed) result (ends, same) e =
     let is : bytes ≡ stops.front ++ stops.rest = append_cancel_left start bytes (stops.front ++ stops.rest) (sym gave ∙ stops.gave ∙ append_assoc start stops.front stops.rest) in
     record {
       carriers = cs;
-      begins = begins-read before.manner part.choice cs bytes stops.front stops.rest carry stops.read is;
+      begins = begins-read before.manner part.selection cs bytes stops.front stops.rest carry stops.read is;
       all = elim (stops.all failed) [
         | inl no_more ↦ inl (subst (λ (l : List ℕ). HasNoMore l (map (λ (c : Carrier). c.frame) cs)) (sym is) no_more)
         | inr far ↦ inr (omega (arith, far, stops.position, ap length is, length-append stops.front stops.rest))

@@ -29,7 +29,7 @@ use Rattle.rip_report.specs.CaptureText.{AreCarriers, HasRoom, count_of, counted
 use Rattle.rip_report.specs.LoggedDatagrams.{nothing_omitted}
 use Rattle.rip_capture.specs.Origins.{origin_in}
 use Rattle.rip_capture.specs.declared.first.FirstOrigin.{FirstOrigin}
-use Rattle.rip_report.specs.Selections.{AreLogged, Carrier, Choice, IsCarrier, IsLogged, Of, OneOrigin, first_behind, first_with}
+use Rattle.rip_report.specs.Selections.{AreLogged, Carrier, IsCarrier, IsLogged, Selection, first_behind, first_with}
 use Rattle.rip_report.specs.declared.captures.authentication.Omitted.{Omitted}
 use Rattle.rip_report.specs.declared.captures.logged.Logged.{Logged}
 use Rattle.rip_report.specs.declared.captures.logged.Logged.TheVariants.{As, Mixed}
@@ -65,35 +65,34 @@ module _ {X : Type 0} where
   pub length-snoc : (xs : List X) (x : X) → length (xs ++ x ∷ []) ≡ length xs + 1
   length-snoc xs x = length-append xs (x ∷ [])
 
-logged-snoc : (choice : Choice) (first : Option Frame) (cs : List Carrier) (c : Carrier) → AreLogged choice first cs → IsLogged choice (first_behind first cs) c.frame c.carried c.logged → AreLogged choice first (cs ++ c ∷ [])
-logged-snoc choice first [] c are is = (is, tt)
-logged-snoc choice first (d ∷ cs) c are is = (are.0, logged-snoc choice (first_with first d.frame d.carried) cs c are.1 is)
+logged-snoc : (selection : Selection) (first : Option Frame) (cs : List Carrier) (c : Carrier) → AreLogged selection first cs → IsLogged selection (first_behind first cs) c.frame c.carried c.logged → AreLogged selection first (cs ++ c ∷ [])
+logged-snoc selection first [] c are is = (is, tt)
+logged-snoc selection first (d ∷ cs) c are is = (are.0, logged-snoc selection (first_with first d.frame d.carried) cs c are.1 is)
 
 pub first-snoc : (first : Option Frame) (cs : List Carrier) (c : Carrier) → first_behind first (cs ++ c ∷ []) ≡ first_with (first_behind first cs) c.frame c.carried
 first-snoc first [] c = refl
 first-snoc first (d ∷ cs) c = first-snoc (first_with first d.frame d.carried) cs c
 
 -- nothing is kept of no packet
-pub keeps-none : (choice : Choice) (kept : FirstOrigin) → origin_in kept ≡ None → Keeps choice None (origin_in kept)
-keeps-none OneOrigin kept e = e
-keeps-none (Of name vlans) kept e = tt
+pub keeps-none : (selection : Selection) (kept : FirstOrigin) → origin_in kept ≡ None → Keeps selection None (origin_in kept)
+keeps-none selection kept e = λ nothing. e
 
-pub carriers-snoc : (how : Manner) (choice : Choice) (cs : List Carrier) (c : Carrier) → AreCarriers how choice cs → IsCarrier c → IsLogged choice (first_behind None cs) c.frame c.carried c.logged
-    → IsTimed (is_timed how c.logged) c.frame c.at → AreCarriers how choice (cs ++ c ∷ [])
-carriers-snoc how choice cs c are is logged timed = record {
+pub carriers-snoc : (how : Manner) (selection : Selection) (cs : List Carrier) (c : Carrier) → AreCarriers how selection cs → IsCarrier c → IsLogged selection (first_behind None cs) c.frame c.carried c.logged
+    → IsTimed (is_timed how c.logged) c.frame c.time → AreCarriers how selection (cs ++ c ∷ [])
+carriers-snoc how selection cs c are is logged timed = record {
   carry = all-snoc IsCarrier cs c are.carry is;
-  logged = logged-snoc choice None cs c are.logged logged;
-  timed = all-snoc (λ (d : Carrier). IsTimed (is_timed how d.logged) d.frame d.at) cs c are.timed timed;
+  logged = logged-snoc selection None cs c are.logged logged;
+  timed = all-snoc (λ (d : Carrier). IsTimed (is_timed how d.logged) d.frame d.time) cs c are.timed timed;
 }
 
 pub frames-snoc : (cs : List Carrier) (c : Carrier) → map (λ d. d.frame) (cs ++ c ∷ []) ≡ map (λ d. d.frame) cs ++ c.frame ∷ []
 frames-snoc cs c = map-append (λ d. d.frame) cs (c ∷ [])
 
 pub lines-snoc : (how : Manner) (link : List ℕ) (cs : List Carrier) (c : Carrier) →
-    packet_lines how link (cs ++ c ∷ []) ≡ packet_lines how link cs ++ (time_part c.at ++ logged_line how.authentication link c.frame.bytes c.logged)
+    packet_lines how link (cs ++ c ∷ []) ≡ packet_lines how link cs ++ (time_part c.time ++ logged_line how.authentication link c.frame.bytes c.logged)
 lines-snoc how link cs c =
-    flat_map-append (λ d. time_part d.at ++ logged_line how.authentication link d.frame.bytes d.logged) cs (c ∷ [])
-    ∙ ap (λ l. packet_lines how link cs ++ l) (append-nil (time_part c.at ++ logged_line how.authentication link c.frame.bytes c.logged))
+    flat_map-append (λ d. time_part d.time ++ logged_line how.authentication link d.frame.bytes d.logged) cs (c ∷ [])
+    ∙ ap (λ l. packet_lines how link cs ++ l) (append-nil (time_part c.time ++ logged_line how.authentication link c.frame.bytes c.logged))
 
 pub line_count-snoc : (cs : List Carrier) (c : Carrier) → line_count (cs ++ c ∷ []) ≡ line_count cs + one (has_line c.logged)
 line_count-snoc cs c = count-snoc (λ d. has_line d.logged) cs c
@@ -134,15 +133,15 @@ has-room how n cs is few =
 
 -- what a packet more does to all that was logged before
 pub adds-packet : {old mid new : Progress} (how : Manner) (link : List ℕ) (cs : List Carrier) (p : Carrier) → Adds old mid (packet_lines how link cs)
-    → Adds mid new (time_part p.at ++ logged_line how.authentication link p.frame.bytes p.logged) → Adds old new (packet_lines how link (cs ++ p ∷ []))
+    → Adds mid new (time_part p.time ++ logged_line how.authentication link p.frame.bytes p.logged) → Adds old new (packet_lines how link (cs ++ p ∷ []))
 adds-packet how link cs p f g = adds_same (sym (lines-snoc how link cs p)) (adds_then f g)
 
 -- ---- how a file ends
 
-module _ {R : Type 0} (given : R → List ℕ) (at_end : R → Bool) (how : Manner) (choice : Choice) (before : List ℕ) (lines : ℕ) (cs : List Carrier) (new : CaptureReader R) (out : Progress) where
+module _ {R : Type 0} (given : R → List ℕ) (at_end : R → Bool) (how : Manner) (selection : Selection) (before : List ℕ) (lines : ℕ) (cs : List Carrier) (new : CaptureReader R) (out : Progress) where
   -- at an error
   pub ends-by : (code : CaptureCode) (at : ℕ) → StopsAt given at_end before (map (λ c. c.frame) cs) (record { code = code; at = at }) new →
-      EndsSo given at_end how choice before lines cs new out (ended_by (record { code = code; at = at }))
+      EndsSo given at_end how selection before lines cs new out (ended_by (record { code = code; at = at }))
   ends-by Magic at h = (h, refl)
   ends-by Cut at h = (h, refl)
   ends-by Version at h = (h, refl)
@@ -154,9 +153,9 @@ module _ {R : Type 0} (given : R → List ℕ) (at_end : R → Bool) (how : Mann
 
   -- at its end
   pub ends-at : (tally : Tally) → EndsHere given at_end before (map (λ c. c.frame) cs) new → tally.counts ≡ counts_of how cs → tally.lines ≡ lines + line_count cs → tally.lines ≤ 1000000 → AreShown tally.span (span_of cs)
-      → EndsSo given at_end how choice before lines cs new out (ended_at tally (position_of new))
+      → EndsSo given at_end how selection before lines cs new out (ended_at tally (position_of new))
   ends-at tally here counts count few span =
-      elim (tally.lines == 1000000) as (λ b. (tally.lines == 1000000) ≡ b → EndsSo given at_end how choice before lines cs new out
+      elim (tally.lines == 1000000) as (λ b. (tally.lines == 1000000) ≡ b → EndsSo given at_end how selection before lines cs new out
       (if b then RefusedFile TooManyLines (position_of new) else Whole tally)) [
         | true ↦ λ e. (sym count ∙ eqb-true tally.lines 1000000 e, inr (here, refl))
         | false ↦ λ e. (here, counts, count, omega (arith, few, eqb-false tally.lines 1000000 e), span)

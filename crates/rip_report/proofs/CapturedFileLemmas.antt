@@ -23,7 +23,7 @@ use Rattle.rip_report.specs.CaptureLogs.SoFar.{none, more}
 use Rattle.rip_report.specs.CaptureText.{AreCarriers, comment_front, comment_line, count_of, counted_status, counts_of, file_part, file_refusal_line, is_cut, is_fragment, is_long, is_malformed, is_mixed, is_timed, lacking_part, one, other_part, packet_lines, refusal_code_text, such}
 use Rattle.rip_report.specs.LineTimes.{IsTimed, span_behind, span_of, span_part, span_with}
 use Rattle.rip_log.specs.declared.time.date_time.DateTime.{DateTime}
-use Rattle.rip_report.specs.Selections.{Carrier, Choice, Part}
+use Rattle.rip_report.specs.Selections.{Carrier, Part, Selection}
 use Rattle.rip_report.specs.declared.captures.logged.Logged.{Logged}
 use Rattle.rip_report.specs.declared.captures.logged.Logged.TheVariants.{As, Mixed}
 use Rattle.rip_report.specs.LeftOut.{count_part}
@@ -254,44 +254,44 @@ IsByte b = b < 256
 
 module _ (packet_bytes : PacketBytes) (origins : SomeOrigin) where
   -- no line has a time where none was asked for
-  untimed : (how : Manner) (cs : List Carrier) → how.times ≡ false → AllByRecursion (λ c. IsTimed (is_timed how c.logged) c.frame c.at) cs → AllByRecursion (λ c. c.at ≡ None) cs
+  untimed : (how : Manner) (cs : List Carrier) → how.times ≡ false → AllByRecursion (λ c. IsTimed (is_timed how c.logged) c.frame c.time) cs → AllByRecursion (λ c. c.time ≡ None) cs
   untimed how [] plain h = tt
   untimed how (c ∷ cs) plain h =
       let off : is_timed how c.logged ≡ false = rw plain refl in
       let none : h.0.micros ≡ None = h.0.none off in
       (rw none at h.0.shown, untimed how cs plain h.1)
 
-  without-times : (how : Manner) (choice : Choice) (cs : List Carrier) → how.times ≡ false → AreCarriers how choice cs → AllByRecursion (λ c. c.at ≡ None) cs
-  without-times how choice cs plain are = untimed how cs plain are.timed
+  without-times : (how : Manner) (selection : Selection) (cs : List Carrier) → how.times ≡ false → AreCarriers how selection cs → AllByRecursion (λ c. c.time ≡ None) cs
+  without-times how selection cs plain are = untimed how cs plain are.timed
 
-  no-times : (span : Option (DateTime × DateTime)) (cs : List Carrier) → AllByRecursion (λ c. c.at ≡ None) cs → span_behind span cs ≡ span
+  no-times : (span : Option (DateTime × DateTime)) (cs : List Carrier) → AllByRecursion (λ c. c.time ≡ None) cs → span_behind span cs ≡ span
   no-times span [] h = refl
   no-times span (c ∷ cs) h = ap (λ (o : Option DateTime). span_behind (span_with span o) cs) h.0 ∙ no-times span cs h.1
 
-  senders : (how : Manner) (choice : Choice) (cs : List Carrier) → AllByRecursion (λ c. Bytes c.frame.bytes) cs → AreCarriers how choice cs → AllByRecursion (λ c. HasSender c.logged) cs
-  senders how choice cs bytes are = senders-logged choice None cs bytes are.carry are.logged
+  senders : (how : Manner) (selection : Selection) (cs : List Carrier) → AllByRecursion (λ c. Bytes c.frame.bytes) cs → AreCarriers how selection cs → AllByRecursion (λ c. HasSender c.logged) cs
+  senders how selection cs bytes are = senders-logged selection None cs bytes are.carry are.logged
 
-  refused-bytes : (how : Manner) (choice : Choice) (lines : ℕ) (b : List ℕ) (cs : List Carrier) (code : RefusalCode) (at : ℕ) → IsRefusedAt how choice lines b cs code at → Bytes b → AllByRecursion (λ c. Bytes c.frame.bytes) cs
-  refused-bytes how choice lines b cs code at (fault c found carry few is) h = of-frames cs (packet_bytes.fault b (map (λ c. c.frame) cs) c at found h)
-  refused-bytes how choice lines b cs code at (packet front bytes rest next is_next split has timed count place is) h =
+  refused-bytes : (how : Manner) (selection : Selection) (lines : ℕ) (b : List ℕ) (cs : List Carrier) (code : RefusalCode) (at : ℕ) → IsRefusedAt how selection lines b cs code at → Bytes b → AllByRecursion (λ c. Bytes c.frame.bytes) cs
+  refused-bytes how selection lines b cs code at (fault c found carry few is) h = of-frames cs (packet_bytes.fault b (map (λ c. c.frame) cs) c at found h)
+  refused-bytes how selection lines b cs code at (packet front bytes rest next is_next split has timed count place is) h =
       of-frames cs (packet_bytes.right front (map (λ c. c.frame) cs) is_next.before.capture (all-left IsByte front bytes (all-left IsByte (front ++ bytes) rest (subst Bytes split h))))
-  refused-bytes how choice lines b cs code at (timeless front bytes rest next is_next split lacks few place is) h =
+  refused-bytes how selection lines b cs code at (timeless front bytes rest next is_next split lacks few place is) h =
       of-frames cs (packet_bytes.right front (map (λ c. c.frame) cs) is_next.before.capture (all-left IsByte front bytes (all-left IsByte (front ++ bytes) rest (subst Bytes split h))))
-  refused-bytes how choice lines b cs code at (comment right count place is) h = of-frames cs (packet_bytes.right b (map (λ c. c.frame) cs) right.capture h)
+  refused-bytes how selection lines b cs code at (comment right count place is) h = of-frames cs (packet_bytes.right b (map (λ c. c.frame) cs) right.capture h)
 
-  refused-carry : (how : Manner) (choice : Choice) (lines : ℕ) (b : List ℕ) (cs : List Carrier) (code : RefusalCode) (at : ℕ) → IsRefusedAt how choice lines b cs code at → AreCarriers how choice cs
-  refused-carry how choice lines b cs code at (fault c found carry few is) = carry
-  refused-carry how choice lines b cs code at (packet front bytes rest next is_next split has timed count place is) = is_next.before.are
-  refused-carry how choice lines b cs code at (timeless front bytes rest next is_next split lacks few place is) = is_next.before.are
-  refused-carry how choice lines b cs code at (comment right count place is) = right.are
+  refused-carry : (how : Manner) (selection : Selection) (lines : ℕ) (b : List ℕ) (cs : List Carrier) (code : RefusalCode) (at : ℕ) → IsRefusedAt how selection lines b cs code at → AreCarriers how selection cs
+  refused-carry how selection lines b cs code at (fault c found carry few is) = carry
+  refused-carry how selection lines b cs code at (packet front bytes rest next is_next split has timed count place is) = is_next.before.are
+  refused-carry how selection lines b cs code at (timeless front bytes rest next is_next split lacks few place is) = is_next.before.are
+  refused-carry how selection lines b cs code at (comment right count place is) = right.are
 
-  begun-bytes : (how : Manner) (choice : Choice) (b : List ℕ) (cs : List Carrier) → BeginsWith how choice b cs → Bytes b → AllByRecursion (λ c. Bytes c.frame.bytes) cs
-  begun-bytes how choice b cs (nothing e) h = subst (AllByRecursion (λ (c : Carrier). Bytes c.frame.bytes)) (sym e) tt
-  begun-bytes how choice b cs (something front rest split right) h = of-frames cs (packet_bytes.right front (map (λ c. c.frame) cs) right.capture (all-left IsByte front rest (subst Bytes split h)))
+  begun-bytes : (how : Manner) (selection : Selection) (b : List ℕ) (cs : List Carrier) → BeginsWith how selection b cs → Bytes b → AllByRecursion (λ c. Bytes c.frame.bytes) cs
+  begun-bytes how selection b cs (nothing e) h = subst (AllByRecursion (λ (c : Carrier). Bytes c.frame.bytes)) (sym e) tt
+  begun-bytes how selection b cs (something front rest split right) h = of-frames cs (packet_bytes.right front (map (λ c. c.frame) cs) right.capture (all-left IsByte front rest (subst Bytes split h)))
 
-  begun-carry : (how : Manner) (choice : Choice) (b : List ℕ) (cs : List Carrier) → BeginsWith how choice b cs → AreCarriers how choice cs
-  begun-carry how choice b cs (nothing e) = subst (AreCarriers how choice) (sym e) (record { carry = tt; logged = tt; timed = tt })
-  begun-carry how choice b cs (something front rest split right) = right.are
+  begun-carry : (how : Manner) (selection : Selection) (b : List ℕ) (cs : List Carrier) → BeginsWith how selection b cs → AreCarriers how selection cs
+  begun-carry how selection b cs (nothing e) = subst (AreCarriers how selection) (sym e) (record { carry = tt; logged = tt; timed = tt })
+  begun-carry how selection b cs (something front rest split right) = right.are
 
   module _ (names : (t : List ℕ) → (is_name t ≡ true) ↔ IsName t) (addresses : (t : List ℕ) (a : ℕ) → (address_in t ≡ Some a) ↔ ((a < 2 ^ 32) × (t ≡ address_text a))) where
     -- a file is whole, and says its datagrams
@@ -305,18 +305,18 @@ module _ (packet_bytes : PacketBytes) (origins : SomeOrigin) where
         → FileText how k lines file.part file.bytes text after answer → Reads n (text ++ rest) records → FileSays how file answer rest records
     file-says how n k lines file text after answer rest records plain is (whole cs right count few e f) reads =
         let link = file.part.link in
-        let choice = file.part.choice in
-        let bare = without-times how choice cs plain right.are in
+        let selection = file.part.selection in
+        let bare = without-times how selection cs plain right.are in
         let c = comment_line k link (counts_of how cs) None in
         let same : comment_line k link (counts_of how cs) (span_of cs) ≡ c = ap (comment_line k link (counts_of how cs)) (no-times None cs bare) in
         let bytes = of-frames cs (packet_bytes.right file.bytes (map (λ c. c.frame) cs) right.capture is.bytes) in
-        let say = packets-say names addresses how n link cs (c ++ rest) records is.name bare (senders how choice cs bytes right.are) bytes
+        let say = packets-say names addresses how n link cs (c ++ rest) records is.name bare (senders how selection cs bytes right.are) bytes
         (subst (λ l. Reads n l records) (ap (λ l. l ++ rest) (e ∙ ap (λ l. packet_lines how link cs ++ l) same) ∙ append_assoc (packet_lines how link cs) c rest) reads) in
         let says = say.says in
         record {
           done = f ∙ ap Ok (whole-status how cs say.whole);
           captures = flat_map (λ c. datagram_in how.authentication link c.frame.bytes c.logged) cs;
-          has = record { carriers = cs; capture = right; whole = say.whole; own = own-all origins choice None cs right.are.logged; datagrams = refl };
+          has = record { carriers = cs; capture = right; whole = say.whole; own = own-all origins selection None cs right.are.logged; datagrams = refl };
           says = record {
             lines = says.lines + 1;
             front = says.front;
@@ -328,18 +328,18 @@ module _ (packet_bytes : PacketBytes) (origins : SomeOrigin) where
         }
     file-says how n k lines file text after answer rest records plain is (refused cs code at found e f) reads =
         let link = file.part.link in
-        let choice = file.part.choice in
+        let selection = file.part.selection in
         let bad = file_refusal_line k link code at in
-        let bytes = refused-bytes how choice lines file.bytes cs code at found is.bytes in
-        let say = packets-say names addresses how n link cs (bad ++ rest) records is.name (without-times how choice cs plain (refused-carry how choice lines file.bytes cs code at found)) (senders how choice cs bytes (refused-carry how choice lines file.bytes cs code at found)) bytes
+        let bytes = refused-bytes how selection lines file.bytes cs code at found is.bytes in
+        let say = packets-say names addresses how n link cs (bad ++ rest) records is.name (without-times how selection cs plain (refused-carry how selection lines file.bytes cs code at found)) (senders how selection cs bytes (refused-carry how selection lines file.bytes cs code at found)) bytes
         (subst (λ l. Reads n l records) (ap (λ l. l ++ rest) e ∙ append_assoc (packet_lines how link cs) bad rest) reads) in
         absurd (refusal-bad say.says.lines k link code at rest say.says.later is.name say.says.reads)
     file-says how n k lines file text after answer rest records plain is (unread cs begun few e f) reads =
         let link = file.part.link in
-        let choice = file.part.choice in
+        let selection = file.part.selection in
         let bad = line (codes "failed: read") in
-        let bytes = begun-bytes how choice file.bytes cs begun is.bytes in
-        let say = packets-say names addresses how n link cs (bad ++ rest) records is.name (without-times how choice cs plain (begun-carry how choice file.bytes cs begun)) (senders how choice cs bytes (begun-carry how choice file.bytes cs begun)) bytes
+        let bytes = begun-bytes how selection file.bytes cs begun is.bytes in
+        let say = packets-say names addresses how n link cs (bad ++ rest) records is.name (without-times how selection cs plain (begun-carry how selection file.bytes cs begun)) (senders how selection cs bytes (begun-carry how selection file.bytes cs begun)) bytes
         (subst (λ l. Reads n l records) (ap (λ l. l ++ rest) e ∙ append_assoc (packet_lines how link cs) bad rest) reads) in
         absurd (failed-bad say.says.lines (codes "failed: read") rest say.says.later (tested 32 (codes "failed: read") refl) refl say.says.reads)
     file-says how n k lines file text after answer rest records plain is (memory e f) reads =

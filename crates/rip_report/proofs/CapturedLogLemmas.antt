@@ -253,14 +253,14 @@ module _ (names : (t : List ℕ) → (is_name t ≡ true) ↔ IsName t) (address
     pub whole : AllByRecursion (λ c. is_whole c.logged ≡ true) cs
     pub says : Says rest records (flat_map (λ c. datagram_in how.authentication link c.frame.bytes c.logged) cs)
 
-  pub packets-say : (how : Manner) (n : ℕ) (link : List ℕ) (cs : List Carrier) (rest : List ℕ) (records : List Numbered) → IsName link → AllByRecursion (λ c. c.at ≡ None) cs → AllByRecursion (λ c. HasSender c.logged) cs →
+  pub packets-say : (how : Manner) (n : ℕ) (link : List ℕ) (cs : List Carrier) (rest : List ℕ) (records : List Numbered) → IsName link → AllByRecursion (λ c. c.time ≡ None) cs → AllByRecursion (λ c. HasSender c.logged) cs →
       AllByRecursion (λ c. Bytes c.frame.bytes) cs
       → Reads n (packet_lines how link cs ++ rest) records → PacketsSay how link cs rest records
   packets-say how n link [] rest records name bare carry h reads = record { whole = tt; says = says-none n rest records reads }
   packets-say how n link (c ∷ cs) rest records name bare carry h reads =
       let after = packet_lines how link cs ++ rest in
       let line = logged_line how.authentication link c.frame.bytes c.logged in
-      let first : time_part c.at ++ line ≡ line = rw bare.0 refl in
+      let first : time_part c.time ++ line ≡ line = rw bare.0 refl in
       let one = packet-says how.authentication n link c.frame.bytes c.logged after records name h.0 carry.0
       (subst (λ l. Reads n l records) (ap (λ l. l ++ packet_lines how link cs ++ rest) first ∙ append_assoc line (packet_lines how link cs) rest) reads) in
       let more = packets-say how one.says.lines link cs rest one.says.later name bare.1 carry.1 h.1 one.says.reads in

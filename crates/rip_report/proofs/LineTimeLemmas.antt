@@ -20,9 +20,9 @@ shown-with None span (Some n) at are (t, e, exists, counted, few) =
 shown-with (Some m) span (Some n) at (first, last, is, one, other) (t, e, exists, counted, few) =
     rw (e, is) (first, t, refl, one, (t, refl, exists, counted, few))
 
-pub span-snoc : (span : Option (DateTime × DateTime)) (cs : List Carrier) (c : Carrier) → span_behind span (cs ++ c ∷ []) ≡ span_with (span_behind span cs) c.at
+pub span-snoc : (span : Option (DateTime × DateTime)) (cs : List Carrier) (c : Carrier) → span_behind span (cs ++ c ∷ []) ≡ span_with (span_behind span cs) c.time
 span-snoc span [] c = refl
-span-snoc span (d ∷ cs) c = span-snoc (span_with span d.at) cs c
+span-snoc span (d ∷ cs) c = span-snoc (span_with span d.time) cs c
 
 -- what is shown can be written
 pub shown-fits : (micros : Option (ℕ × ℕ)) (span : Option (DateTime × DateTime)) → AreShown micros span → FitsSpan micros

@@ -4,9 +4,9 @@ use Rattle.rip_report.specs.Listings.{TextsBelow}
 use Rattle.rip_report.specs.Outs.{Adds, AddsOne, IsOnItsWay, Progress, noted}
 use Rattle.rip_report.specs.Sent.{SinkState, Writes, sink_state}
 use Rattle.rip_report.specs.declared.page.TheConstants.{PAGE_BYTES}
-use Rattle.rip_log.specs.Taken.{Taken}
+use Rattle.rip_log.specs.Taken.{Taken, Took}
 use Rattle.rip_log.specs.declared.device.Failed.{Failed}
-use Rattle.rip_report.proofs.SentLemmas.{Began-front, Sent-front, Writes-more}
+use Rattle.rip_report.proofs.SentLemmas.{Began-front, Sent-front, Sent-whole, Writes-more}
 
 pub noted_more : (xs : List (Option (List ℕ))) (b : List ℕ) → noted (xs ++ Some b ∷ []) ≡ noted xs ++ b
 noted_more [] b = append-nil b
@@ -38,6 +38,11 @@ pub on_its_way : {K : Type 0} (taken : K → Taken) (broken : K → Bool) (start
     Writes start (sink_state taken broken sink) r text held → IsOnItsWay taken broken start text
 on_its_way taken broken start sink (Ok done) text held ok few writes = record { sink = sink; held = held; writes = writes; few = few }
 on_its_way taken broken start sink (Err e) text held ok few writes = cc ok
+
+-- a text that has gone out, where nothing of it is held and no write has failed
+pub gone_out : (a b : SinkState) (r : Result (Unit {0}) Failed) (text : List ℕ) → is_err r ≡ false → Writes a b r text [] → Took a.taken b.taken text
+gone_out a b (Ok done) text ok writes = Sent-whole a.taken b.taken text writes.ok
+gone_out a b (Err e) text ok writes = cc ok
 
 -- the text that it is after more was added
 pub way_after : {K : Type 0} (taken : K → Taken) (broken : K → Bool) {a b : Progress} {x : List ℕ} → Adds a b x → IsOnItsWay taken broken b.start b.text → IsOnItsWay taken broken a.start (a.text ++ x)

@@ -5,7 +5,7 @@ use Rattle.rip_table.specs.State.{State}
 use Rattle.rip_table.specs.declared.tallies.counts.Counts.{Counts}
 use Rattle.rip_report.specs.LeftOut.{anyway_status, left_out_line}
 use Rattle.rip_report.specs.RoutesText.{RoutesText, routes_line}
-use Rattle.rip_report.specs.TableText.{shown_table, table_line}
+use Rattle.rip_report.specs.TableText.{TableText, table_line}
 use Rattle.rip_report.specs.Written.{Written}
 use Rattle.rip_report.specs.declared.status.Status.{Status}
 
@@ -22,7 +22,7 @@ pub record Anyway (IsText : Written → Type 0) (first : List ℕ) (c : Counts) 
 -- a table, and how much is left out of it
 abbrev pub AnywayTable : Network → State → Counts → Written → Type 0
 AnywayTable n s =
-    Anyway (λ w. w ≡ shown_table n s) (table_line (length n.interfaces) (length s.prefixes))
+    Anyway (TableText n s) (table_line (length n.interfaces) (length s.prefixes))
 
 -- the routes of a table, and how much is left out of it
 abbrev pub AnywayRoutes : Network → State → Counts → Written → Type 0

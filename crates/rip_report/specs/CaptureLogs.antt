@@ -15,7 +15,7 @@ use Rattle.rip_capture.specs.declared.packet.Carried.{Carried}
 use Rattle.rip_capture.specs.declared.packet.Carried.TheVariants.{Datagram, Elsewhere, Others}
 use Rattle.rip_report.specs.CaptureText.{AreCarriers, HasTime, LacksTime, IsCaptureOf, comment_line, counted_status, counts_of, file_refusal_line, has_line, is_datagram, line_count, packet_lines, such}
 use Rattle.rip_report.specs.LineTimes.{span_of}
-use Rattle.rip_report.specs.Selections.{Carrier, Choice, HaveOneOrigin, IsCarrier, IsLogged, OfInterface, OfVlans, OneOrigin, Of, Part, first_behind}
+use Rattle.rip_report.specs.Selections.{Carrier, HaveOneOrigin, IsCarrier, IsLogged, OfInterface, OfVlans, Part, Selection, first_behind, nothing_named}
 use Rattle.rip_report.specs.LoggedDatagrams.{logged_datagram}
 use Rattle.rip_report.specs.declared.captures.logged.Logged.{Logged}
 use Rattle.rip_report.specs.declared.captures.logged.Logged.TheVariants.{As}
@@ -52,55 +52,55 @@ status_of log = log.status
 -- ---- a file
 
 -- a beginning of these bytes is a capture of these packets, or there are none
-pub data BeginsWith (how : Manner) (choice : Choice) (b : List ℕ) (carriers : List Carrier)
+pub data BeginsWith (how : Manner) (selection : Selection) (b : List ℕ) (carriers : List Carrier)
     : Type 0 where
-  none : carriers ≡ [] → BeginsWith how choice b carriers
-  some : (front rest : List ℕ) → b ≡ front ++ rest → IsCaptureOf how choice front carriers →
-      BeginsWith how choice b carriers
+  none : carriers ≡ [] → BeginsWith how selection b carriers
+  some : (front rest : List ℕ) → b ≡ front ++ rest → IsCaptureOf how selection front carriers →
+      BeginsWith how selection b carriers
 
 -- a packet is the next one of a file, behind these
-pub record IsNextPacket (how : Manner) (choice : Choice) (front more : List ℕ)
+pub record IsNextPacket (how : Manner) (selection : Selection) (front more : List ℕ)
     (carriers : List Carrier) (next : Carrier) : Type 0 where
-  pub before : IsCaptureOf how choice front carriers
+  pub before : IsCaptureOf how selection front carriers
   pub longer : IsCapture (front ++ more) (map (λ c. c.frame) (carriers ++ next ∷ []))
   pub behind : IsNext front more (map (λ c. c.frame) carriers)
   pub carries : IsCarrier next
-  pub logged : IsLogged choice (first_behind None carriers) next.frame next.carried next.logged
+  pub logged : IsLogged selection (first_behind None carriers) next.frame next.carried next.logged
 
 -- a file is refused behind these packets, of a log of so many lines: by its first fault, where
 -- the line of the next packet lacks its time, or that line, or the comment, would be one too many
-pub data IsRefusedAt (how : Manner) (choice : Choice) (lines : ℕ) (b : List ℕ)
+pub data IsRefusedAt (how : Manner) (selection : Selection) (lines : ℕ) (b : List ℕ)
     (carriers : List Carrier) (code : RefusalCode) (at : ℕ) : Type 0 where
   fault : (fault : CaptureCode) → CaptureFault b (map (λ c. c.frame) carriers) fault at →
-      AreCarriers how choice carriers → lines + line_count carriers ≤ MOST_LINES →
-      code ≡ Capture fault → IsRefusedAt how choice lines b carriers code at
+      AreCarriers how selection carriers → lines + line_count carriers ≤ MOST_LINES →
+      code ≡ Capture fault → IsRefusedAt how selection lines b carriers code at
   packet : (front more rest : List ℕ) (next : Carrier) →
-      IsNextPacket how choice front more carriers next → b ≡ (front ++ more) ++ rest →
+      IsNextPacket how selection front more carriers next → b ≡ (front ++ more) ++ rest →
       has_line next.logged ≡ true → HasTime how next → lines + line_count carriers ≡ MOST_LINES →
-      at ≡ length front → code ≡ TooManyLines → IsRefusedAt how choice lines b carriers code at
+      at ≡ length front → code ≡ TooManyLines → IsRefusedAt how selection lines b carriers code at
   time : (front more rest : List ℕ) (next : Carrier) →
-      IsNextPacket how choice front more carriers next → b ≡ (front ++ more) ++ rest →
+      IsNextPacket how selection front more carriers next → b ≡ (front ++ more) ++ rest →
       LacksTime how next → lines + line_count carriers ≤ MOST_LINES →
-      at ≡ length front → code ≡ Time → IsRefusedAt how choice lines b carriers code at
-  comment : IsCaptureOf how choice b carriers → lines + line_count carriers ≡ MOST_LINES →
+      at ≡ length front → code ≡ Time → IsRefusedAt how selection lines b carriers code at
+  comment : IsCaptureOf how selection b carriers → lines + line_count carriers ≡ MOST_LINES →
       at ≡ length b →
-      code ≡ TooManyLines → IsRefusedAt how choice lines b carriers code at
+      code ≡ TooManyLines → IsRefusedAt how selection lines b carriers code at
 
 -- what a log has of the file of this number, behind so many lines, and, where the file is whole,
 -- how many lines it then has
 pub data FileText (how : Manner) (number lines : ℕ) (part : Part) (b text : List ℕ)
     (after : ℕ) (answer : Result Status RunError) : Type 0 where
-  whole : (carriers : List Carrier) → IsCaptureOf how part.choice b carriers →
+  whole : (carriers : List Carrier) → IsCaptureOf how part.selection b carriers →
       after ≡ lines + line_count carriers + 1 → after ≤ MOST_LINES →
       text ≡ packet_lines how part.link carriers
       ++ comment_line number part.link (counts_of how carriers) (span_of carriers) →
       answer ≡ Ok (counted_status (counts_of how carriers)) →
       FileText how number lines part b text after answer
   refused : (carriers : List Carrier) (code : RefusalCode) (at : ℕ) →
-      IsRefusedAt how part.choice lines b carriers code at →
+      IsRefusedAt how part.selection lines b carriers code at →
       text ≡ packet_lines how part.link carriers ++ file_refusal_line number part.link code at →
       answer ≡ Ok Refused → FileText how number lines part b text after answer
-  unread : (carriers : List Carrier) → BeginsWith how part.choice b carriers →
+  unread : (carriers : List Carrier) → BeginsWith how part.selection b carriers →
       lines + line_count carriers ≤ MOST_LINES →
       text ≡ packet_lines how part.link carriers ++ line (codes "failed: read") →
       answer ≡ Err Read → FileText how number lines part b text after answer
@@ -112,7 +112,7 @@ pub data FileFront (how : Manner) (number lines : ℕ) (part : Part) (b text : L
     : Type 0 where
   text : (after : ℕ) (answer : Result Status RunError) →
       FileText how number lines part b text after answer → FileFront how number lines part b text
-  packets : (carriers : List Carrier) → BeginsWith how part.choice b carriers →
+  packets : (carriers : List Carrier) → BeginsWith how part.selection b carriers →
       lines + line_count carriers ≤ MOST_LINES → text ≡ packet_lines how part.link carriers →
       FileFront how number lines part b text
 
@@ -164,7 +164,7 @@ pub record AddsFile
 pub record AddsUnread {K : Type 0} (taken : K → Taken) (old new : K) (how : Manner)
     (part : Part) (b : List ℕ) : Type 0 where
   pub carriers : List Carrier
-  pub begins : BeginsWith how part.choice b carriers
+  pub begins : BeginsWith how part.selection b carriers
   pub all : HasNoMore b (map (λ c. c.frame) carriers) ⊎ (2 ^ 64 ≤ length b + 2 ^ 32)
   pub text : Took (taken old) (taken new)
       (packet_lines how part.link carriers ++ line (codes "failed: read"))
@@ -235,22 +235,27 @@ pub record IsFile (file : File) : Type 0 where
   pub name : IsName file.part.link
   pub bytes : AllByRecursion (λ b. b < 256) file.bytes
 
--- a packet is its link's: of the interface and the VLANs that are asked for, or from where the
--- first packet of its file comes whose sender is known
-abbrev pub IsOwn : Choice → Option Frame → Frame → Type 0
-IsOwn OneOrigin None p = ⊥
-IsOwn OneOrigin (Some first) p = HaveOneOrigin first p
-IsOwn (Of name vlans) first p = OfInterface name p × OfVlans vlans p
+-- a packet comes from where the first one came
+abbrev pub IsOfFirst : Option Frame → Frame → Type 0
+IsOfFirst None p = ⊥
+IsOfFirst (Some first) p = HaveOneOrigin first p
+
+-- a packet is its link's: of the interface and the VLANs that are named, and where nothing is, from
+-- where the first packet of its file comes whose sender is known
+pub record IsOwn (selection : Selection) (first : Option Frame) (p : Frame) : Type 0 where
+  pub interface : OfInterface selection.interface p
+  pub vlans : OfVlans selection.vlans p
+  pub origin : selection ≡ nothing_named → IsOfFirst first p
 
 -- a file is a capture, each datagram of its link to 224.0.0.9 is there whole, and these are they,
 -- in order
 pub record HasDatagrams (how : Manner) (file : File) (captures : List Captured)
     : Type 0 where
   pub carriers : List Carrier
-  pub capture : IsCaptureOf how file.part.choice file.bytes carriers
+  pub capture : IsCaptureOf how file.part.selection file.bytes carriers
   pub whole : AllByRecursion (λ c. is_whole c.logged ≡ true) carriers
   pub own : AllByRecursion (λ c. such is_datagram c.logged ≡ true →
-      IsOwn file.part.choice (first_behind None carriers) c.frame) carriers
+      IsOwn file.part.selection (first_behind None carriers) c.frame) carriers
   pub datagrams : captures ≡ flat_map
       (λ c. datagram_in how.authentication file.part.link c.frame.bytes c.logged) carriers
 

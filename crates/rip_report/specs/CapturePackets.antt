@@ -10,7 +10,7 @@ use Rattle.rip_capture.specs.declared.reader.CaptureReader.{CaptureReader}
 use Rattle.rip_report.specs.CaptureText.{AreCarriers, HasTime, LacksTime, comment_line, counted, counted_status, counts_of, file_refusal_line, has_line, is_timed, line_count, logged_line, omitted_of, one, packet_lines}
 use Rattle.rip_report.specs.LineTimes.{AreShown, IsShown, IsTimed, noted_span, span_of, time_part}
 use Rattle.rip_log.specs.declared.time.date_time.DateTime.{DateTime}
-use Rattle.rip_report.specs.Selections.{Carrier, Choice, IsCarrier, IsLogged, Of, OneOrigin, Part, first_behind, first_with}
+use Rattle.rip_report.specs.Selections.{Carrier, IsCarrier, IsLogged, Part, Selection, first_behind, first_with, nothing_named}
 use Rattle.rip_capture.specs.Origins.{IsOrigin, Origin}
 use Rattle.rip_report.specs.CaptureLogs.{Follows}
 use Rattle.rip_report.specs.Finished.{EndsWith}
@@ -30,11 +30,14 @@ use Rattle.rip_report.specs.declared.status.RunError.TheVariants.{Read, Write}
 use Rattle.rip_report.specs.declared.status.Status.{Status}
 use Rattle.rip_report.specs.declared.status.Status.TheVariants.{Refused as RefusedFile}
 
--- what is kept of the first packet whose sender is known, where it is asked for
-abbrev pub Keeps : Choice → Option Frame → Option Origin → Type 0
-Keeps OneOrigin None kept = kept ≡ None
-Keeps OneOrigin (Some first) kept = (origin : Origin) × (kept ≡ Some origin) × IsOrigin first origin
-Keeps (Of name vlans) first kept = Unit {0}
+-- what is kept of the first packet whose sender is known
+abbrev pub KeepsFirst : Option Frame → Option Origin → Type 0
+KeepsFirst None kept = kept ≡ None
+KeepsFirst (Some first) kept = (origin : Origin) × (kept ≡ Some origin) × IsOrigin first origin
+
+-- the same, where it is asked for
+abbrev pub Keeps : Selection → Option Frame → Option Origin → Type 0
+Keeps selection first kept = selection ≡ nothing_named → KeepsFirst first kept
 
 -- a packet was counted, of which a log has this, and its line added
 pub record CountsPacket (how : Manner) (link : List ℕ) (c : Carrier) (old new : Tally)
@@ -43,12 +46,12 @@ pub record CountsPacket (how : Manner) (link : List ℕ) (c : Carrier) (old new 
       ≡ counted old.counts c.logged (omitted_of how.authentication c.frame.bytes c.logged)
   pub lines : new.lines ≡ old.lines + one (has_line c.logged)
   pub few : new.lines ≤ MOST_LINES
-  pub timed : IsTimed (is_timed how c.logged) c.frame c.at
+  pub timed : IsTimed (is_timed how c.logged) c.frame c.time
   pub micros : Option ℕ
-  pub shown : IsShown micros c.at
+  pub shown : IsShown micros c.time
   pub span : new.span ≡ noted_span old.span micros
   pub adds : Adds before after
-      (time_part c.at ++ logged_line how.authentication link c.frame.bytes c.logged)
+      (time_part c.time ++ logged_line how.authentication link c.frame.bytes c.logged)
 
 -- nothing was added
 pub record AddsNothing (old new : Tally) (before after : Progress) : Type 0 where
@@ -78,8 +81,8 @@ pub record LogsPacket (how : Manner) (part : Part) (first : Option Frame) (frame
   pub carrier : Carrier
   pub frame_is : carrier.frame ≡ frame
   pub carries : IsCarrier carrier
-  pub logged : IsLogged part.choice first carrier.frame carrier.carried carrier.logged
-  pub keeps : Keeps part.choice (first_with first carrier.frame carrier.carried) kept
+  pub logged : IsLogged part.selection first carrier.frame carrier.carried carrier.logged
+  pub keeps : Keeps part.selection (first_with first carrier.frame carrier.carried) kept
   pub logs : LogsSo how part.link carrier old new before after result
 
 -- how the reading of a file ends at an error
@@ -91,31 +94,31 @@ abbrev pub ended_at : Tally → ℕ → Ending
 ended_at tally at = if tally.lines == MOST_LINES then Refused TooManyLines at else Whole tally
 
 -- how the reading of a file ends, behind these packets
-abbrev pub EndsSo : {R : Type 0} → (R → List ℕ) → (R → Bool) → Manner → Choice → List ℕ →
+abbrev pub EndsSo : {R : Type 0} → (R → List ℕ) → (R → Bool) → Manner → Selection → List ℕ →
     ℕ → List Carrier → CaptureReader R → Progress → Ending → Type 0
-EndsSo given at_end how choice before lines carriers new text (Whole tally) =
+EndsSo given at_end how selection before lines carriers new text (Whole tally) =
     EndsHere given at_end before (map (λ c. c.frame) carriers) new
     × (tally.counts ≡ counts_of how carriers) × (tally.lines ≡ lines + line_count carriers)
     × (tally.lines < MOST_LINES) × AreShown tally.span (span_of carriers)
-EndsSo given at_end how choice before lines carriers new text (Refused (Capture code) at) =
+EndsSo given at_end how selection before lines carriers new text (Refused (Capture code) at) =
     StopsAt given at_end before (map (λ c. c.frame) carriers) (record { code = code; at = at }) new
     × (is_read code ≡ false)
-EndsSo given at_end how choice before lines carriers new text (Refused TooManyLines at) =
+EndsSo given at_end how selection before lines carriers new text (Refused TooManyLines at) =
     (lines + line_count carriers ≡ MOST_LINES)
     × (((next : Carrier) × IsCarrier next
-    × IsLogged choice (first_behind None carriers) next.frame next.carried next.logged
+    × IsLogged selection (first_behind None carriers) next.frame next.carried next.logged
     × TakesPacket given before (map (λ c. c.frame) carriers) next.frame at new
     × (has_line next.logged ≡ true) × HasTime how next)
     ⊎ (EndsHere given at_end before (map (λ c. c.frame) carriers) new × (at ≡ position_of new)))
-EndsSo given at_end how choice before lines carriers new text (Refused Time at) =
+EndsSo given at_end how selection before lines carriers new text (Refused Time at) =
     (next : Carrier) × IsCarrier next
-    × IsLogged choice (first_behind None carriers) next.frame next.carried next.logged
+    × IsLogged selection (first_behind None carriers) next.frame next.carried next.logged
     × TakesPacket given before (map (λ c. c.frame) carriers) next.frame at new
     × LacksTime how next
-EndsSo given at_end how choice before lines carriers new text Unread =
+EndsSo given at_end how selection before lines carriers new text Unread =
     (error : CaptureError) × StopsAt given at_end before (map (λ c. c.frame) carriers) error new
     × (is_read error.code ≡ true)
-EndsSo given at_end how choice before lines carriers new text Unwritten =
+EndsSo given at_end how selection before lines carriers new text Unwritten =
     (text.failed ≡ true)
     × ((taken : List ℕ) × Stands given before new taken (map (λ c. c.frame) carriers))
 
@@ -134,10 +137,10 @@ pub record LogsPackets {K R : Type 0} (taken : K → Taken) (failed : K → Bool
     (how : Manner) (part : Part) (lines : ℕ) (old new : CaptureReader R)
     (before after : Progress) (ending : Ending) : Type 0 where
   pub carriers : List Carrier
-  pub are : AreCarriers how part.choice carriers
+  pub are : AreCarriers how part.selection carriers
   pub few : lines + line_count carriers ≤ MOST_LINES
   pub adds : Adds before after (packet_lines how part.link carriers)
-  pub ends : EndsSo given at_end how part.choice (given (source_of old)) lines carriers new after
+  pub ends : EndsSo given at_end how part.selection (given (source_of old)) lines carriers new after
       ending
   pub went : Went given coming at_end (source_of old) (source_of new)
   pub unread : ending ≡ Unread → (broken (source_of new) ≡ true) ⊎ IsFar new

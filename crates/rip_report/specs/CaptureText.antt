@@ -11,7 +11,7 @@ use Rattle.rip_capture.specs.declared.packet.Carried.{Carried}
 use Rattle.rip_capture.specs.declared.packet.Carried.TheVariants.{Datagram, Cut, Fragment, Malformed, Long, Unknown, Elsewhere, Others}
 use Rattle.rip_report.specs.LeftOut.{count_part}
 use Rattle.rip_report.specs.LineTimes.{HasMicros, IsTimed, span_part, time_part}
-use Rattle.rip_report.specs.Selections.{AreLogged, Carrier, Choice, IsCarrier}
+use Rattle.rip_report.specs.Selections.{AreLogged, Carrier, IsCarrier, Selection}
 use Rattle.rip_log.specs.declared.time.date_time.DateTime.{DateTime}
 use Rattle.rip_report.specs.LoggedDatagrams.{logged_datagram, nothing_omitted, omitted_from}
 use Rattle.rip_report.specs.Written.{line}
@@ -52,7 +52,7 @@ logged_line how link frame (Mixed sender) = line (sender_part link sender ++ cod
 -- the lines of packets, in order
 abbrev pub packet_lines : Manner → List ℕ → List Carrier → List ℕ
 packet_lines how link carriers = flat_map
-    (λ c. time_part c.at ++ logged_line how.authentication link c.frame.bytes c.logged) carriers
+    (λ c. time_part c.time ++ logged_line how.authentication link c.frame.bytes c.logged) carriers
 
 -- ---- how many packets there are of each kind
 
@@ -127,16 +127,17 @@ pub record LacksTime (how : Manner) (c : Carrier) : Type 0 where
   pub none : (micros : ℕ) → ¬ HasMicros c.frame micros
 
 -- these are packets of a file from its first one on, of which a log has that
-pub record AreCarriers (how : Manner) (choice : Choice) (carriers : List Carrier) : Type 0 where
+pub record AreCarriers (how : Manner) (selection : Selection) (carriers : List Carrier)
+    : Type 0 where
   pub carry : AllByRecursion IsCarrier carriers
-  pub logged : AreLogged choice None carriers
-  pub timed : AllByRecursion (λ c. IsTimed (is_timed how c.logged) c.frame c.at) carriers
+  pub logged : AreLogged selection None carriers
+  pub timed : AllByRecursion (λ c. IsTimed (is_timed how c.logged) c.frame c.time) carriers
 
 -- these bytes are a capture, up to here, of these packets
-pub record IsCaptureOf (how : Manner) (choice : Choice) (b : List ℕ) (carriers : List Carrier)
+pub record IsCaptureOf (how : Manner) (selection : Selection) (b : List ℕ) (carriers : List Carrier)
     : Type 0 where
   pub capture : IsCapture b (map (λ c. c.frame) carriers)
-  pub are : AreCarriers how choice carriers
+  pub are : AreCarriers how selection carriers
 
 -- a datagram of which a log has a line lies within so many bytes of its frame
 abbrev pub LogLiesWithin : ℕ → Logged → Type 0

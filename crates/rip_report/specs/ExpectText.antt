@@ -6,7 +6,7 @@ use Rattle.rip_check.specs.declared.way.Way.{Way}
 use Rattle.rip_check.specs.declared.way.Way.TheVariants.{Unreachable, Here, Over}
 use Rattle.rip_report.specs.Listings.{TextsBelow}
 use Rattle.rip_report.specs.Names.{counts_part, name_of, way_text}
-use Rattle.rip_report.specs.PlanText.{OfPlan, prefix_of}
+use Rattle.rip_report.specs.PlanText.{prefix_of}
 use Rattle.rip_report.specs.Written.{Written, line}
 use Rattle.rip_report.specs.declared.status.Status.TheVariants.{Done}
 
@@ -65,6 +65,3 @@ pub data ExpectedRoutes (n : Network) : Written → Type 0 where
   right_routes : (pairs : ℕ) (lines : List ℕ) → AreUnreachable n pairs
       → TextsBelow (RouterLines n) (length n.routers) lines
       → ExpectedRoutes n (record { text = expect_line n pairs ++ lines; status = Done })
-
-abbrev pub ExpectText : List ℕ → Written → Type 0
-ExpectText = OfPlan ExpectedRoutes

@@ -44,18 +44,17 @@ pub record OfAccepted (IsText : Network → List EventAt → State → Written �
   pub all : is_all_joined (counts_of events) ≡ true
   pub is_text : IsText n events s w
 
--- what is written for the bytes of a plan and the text of a log: what refuses the plan, or who is
--- in the log
-abbrev pub HeardOf : List ℕ → List ℕ → Written → Type 0
-HeardOf = EventsText (λ n events s. HeardText n events)
+-- who is in a log, by the events that its lines come to
+abbrev pub HeardOf : Network → List EventAt → State → Written → Type 0
+HeardOf n events s = HeardText n events
 
--- what refuses the plan, or the table of what is not refused in the log
-abbrev pub TableAnyway : List ℕ → List ℕ → Written → Type 0
-TableAnyway = EventsText (λ n events s. AnywayTable n s (counts_of events))
+-- the table of what is not refused in it
+abbrev pub TableAnyway : Network → List EventAt → State → Written → Type 0
+TableAnyway n events s = AnywayTable n s (counts_of events)
 
--- what refuses the plan, or the routes of that table
-abbrev pub RoutesAnyway : List ℕ → List ℕ → Written → Type 0
-RoutesAnyway = EventsText (λ n events s. AnywayRoutes n s (counts_of events))
+-- the routes of that table
+abbrev pub RoutesAnyway : Network → List EventAt → State → Written → Type 0
+RoutesAnyway n events s = AnywayRoutes n s (counts_of events)
 
 -- a text has a line of more than 2^64 - 1 bytes
 abbrev pub HasEndless : List ℕ → Type 0

@@ -18,14 +18,15 @@ pub record HasMicros (p : Frame) (micros : ℕ) : Type 0 where
 
 -- so many micros are this point in time; none are none
 abbrev pub IsShown : Option ℕ → Option DateTime → Type 0
-IsShown None at = at ≡ None
-IsShown (Some micros) at =
-    (t : DateTime) × (at ≡ Some t) × IsDateTime t × (micros_of t ≡ micros) × (micros ≤ MOST_MICROS)
+IsShown None time = time ≡ None
+IsShown (Some micros) time =
+    (t : DateTime) × (time ≡ Some t) × IsDateTime t × (micros_of t ≡ micros)
+    × (micros ≤ MOST_MICROS)
 
 -- the time in front of a packet's line, where there has to be one
-pub record IsTimed (asked : Bool) (p : Frame) (at : Option DateTime) : Type 0 where
+pub record IsTimed (asked : Bool) (p : Frame) (time : Option DateTime) : Type 0 where
   pub micros : Option ℕ
-  pub shown : IsShown micros at
+  pub shown : IsShown micros time
   pub none : asked ≡ false → micros ≡ None
   pub some : asked ≡ true → (n : ℕ) × (micros ≡ Some n) × HasMicros p n
 
@@ -51,7 +52,7 @@ span_with (Some span) (Some t) = Some (span.0, t)
 
 abbrev pub span_behind : Option (DateTime × DateTime) → List Carrier → Option (DateTime × DateTime)
 span_behind span [] = span
-span_behind span (c ∷ carriers) = span_behind (span_with span c.at) carriers
+span_behind span (c ∷ carriers) = span_behind (span_with span c.time) carriers
 
 -- the first and the last time in front of the lines of these packets
 abbrev pub span_of : List Carrier → Option (DateTime × DateTime)

@@ -1,7 +1,7 @@
 -- Text on its way to a sink.
-use Rattle.std.specs.Prelude.{◌≡◌, ◌≤◌, ℕ, Bool, List, [], ◌∷◌, ◌++◌, length, Option, Some, None, Result, Ok}
+use Rattle.std.specs.Prelude.{◌≡◌, ◌≤◌, ℕ, Bool, false, List, [], ◌∷◌, ◌++◌, length, Option, Some, None, Result, Ok}
 use Rattle.rip_log.specs.declared.device.Failed.{Failed}
-use Rattle.rip_log.specs.Taken.{Taken}
+use Rattle.rip_log.specs.Taken.{Taken, Took}
 use Rattle.rip_report.specs.Sent.{SinkState, Writes, sink_state}
 use Rattle.rip_report.specs.declared.page.TheConstants.{PAGE_BYTES}
 
@@ -23,6 +23,10 @@ pub record AddsOne (old new : Progress) (IsText : List ℕ → Type 0) : Type 0 
   pub text : List ℕ
   pub is_text : IsText text
   pub adds : Adds old new text
+
+-- all text that was added has gone out, unless a write has failed
+abbrev pub HasGoneOut : Progress → Type 0
+HasGoneOut o = o.failed ≡ false → Took o.start.taken o.sink.taken o.text
 
 -- the texts that were noted, as one
 abbrev pub noted : List (Option (List ℕ)) → List ℕ

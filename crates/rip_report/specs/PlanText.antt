@@ -161,5 +161,6 @@ pub data OfPlan (IsText : Network → Written → Type 0) (plan : List ℕ) : Wr
   of_plan : (n : Network) (w : Written) → ((e : PlanError) → IsFault plan e → ⊥)
       → IsPlanOfText plan n → IsText n w → OfPlan IsText plan w
 
-abbrev pub PlanText : List ℕ → Written → Type 0
-PlanText = OfPlan (λ n w. w ≡ shown_plan n)
+-- what is written of a plan
+abbrev pub PlanText : Network → Written → Type 0
+PlanText n w = w ≡ shown_plan n

@@ -1,5 +1,7 @@
--- What every run leaves that reads a plan and a log, whatever it prints.
+-- What runs print and leave: each on a plan, or on a plan and a log, by the texts of its command.
 use Rattle.std.specs.Prelude.{◌≡◌, ◌≢◌, ◌≤◌, ℕ, Bool, true, List, ◌++◌, length, Option, Some, Result, Err, IfOk}
+use Rattle.rip_log.specs.declared.sink.Sink.{Ghosts as SinkOf}
+use Rattle.rip_log.specs.declared.source.Source.{Ghosts as SourceOf}
 use Rattle.rip_log.specs.LogText.{AreLines}
 use Rattle.rip_log.specs.Wholes.{Went}
 use Rattle.rip_log.specs.declared.limits.TheConstants.{MOST_HELD_BYTES}
@@ -7,12 +9,15 @@ use Rattle.rip_plan.specs.Network.{Network}
 use Rattle.rip_plan.specs.PlanFaults.{PlanFault}
 use Rattle.rip_plan.specs.PlanOf.{IsPlanOfText}
 use Rattle.rip_plan.specs.declared.error.PlanError.{PlanError}
+use Rattle.rip_table.specs.Events.{EventAt}
 use Rattle.rip_table.specs.State.{State}
 use Rattle.rip_table.specs.declared.error.CollectError.{CollectError}
 use Rattle.rip_report.specs.Given.{IsGiven}
-use Rattle.rip_report.specs.Hearings.{IsUnread}
-use Rattle.rip_report.specs.PlanText.{IsNoText}
-use Rattle.rip_report.specs.ReportText.{LogMakes}
+use Rattle.rip_report.specs.Hearings.{EventsText, IsUnread}
+use Rattle.rip_report.specs.PlanText.{IsNoText, OfPlan}
+use Rattle.rip_report.specs.ReportText.{IsAccepted, LogMakes, ReportText}
+use Rattle.rip_report.specs.Sent.{Prints, WentOut}
+use Rattle.rip_report.specs.Written.{Written}
 use Rattle.rip_report.specs.declared.status.Status.{Status}
 use Rattle.rip_report.specs.declared.status.Status.TheVariants.{Refused}
 use Rattle.rip_report.specs.declared.status.RunError.{RunError}
@@ -77,3 +82,45 @@ StopsAtRefusal given at_end plan old new result =
     (text : List ℕ) → IsGiven given at_end old new text → (n : Network) (s : State)
     (e : CollectError) → IsPlanOfText plan n → LogMakes n text s (Some e) →
     IfOk result (λ status. PullsLittleBehind given old new e.line)
+
+-- a run on a plan alone: what it prints and leaves, by the texts that its command has for a plan
+pub record RunsOnPlan {K : Type 0} (sink : SinkOf K) (IsText : Network → Written → Type 0)
+    (plan : List ℕ) (out : K) (run : K × Result Status RunError) : Type 0 where
+  -- the whole text went out, or a beginning where the sink failed, or nothing
+  pub prints : Prints sink.taken sink.broken out run.0 run.1 (OfPlan IsText plan)
+  -- there is no log to read
+  pub read : run.1 ≢ Err Read
+  -- too many bytes, or bytes that are not UTF-8, never give Memory
+  pub no_text : IsNoText plan → run.1 ≢ Err Memory
+
+-- a run on a plan and a log that ends at the first line that is refused, by the texts that its
+-- command has for the table of a log
+pub record RunsOnLog {R K : Type 0} (source : SourceOf R) (sink : SinkOf K)
+    (IsText : Network → State → Written → Type 0) (plan : List ℕ) (log : R) (out : K)
+    (run : R × K × Result Status RunError) : Type 0 where
+  -- the whole text went out, or a beginning where the sink failed, or nothing
+  pub prints : (text : List ℕ) → IsGiven source.given source.at_end log run.0 text →
+      Prints sink.taken sink.broken out run.1 run.2 (ReportText IsText plan text)
+  -- what is printed of a table comes only at the source's end, and Read only where it has failed
+  pub reads : Reads source.given source.coming source.broken source.at_end log run.0 run.2
+  -- where plan and log are accepted, the text is one for the table that the log shows
+  pub told : (text : List ℕ) → IsGiven source.given source.at_end log run.0 text →
+      (n : Network) (s : State) → IsAccepted plan text n s →
+      IfOk run.2 (WentOut (IsText n s) (sink.taken out) (sink.taken run.1))
+  -- if the plan is refused, the log is not touched; one that is no text never gives Memory
+  pub refuses : RefusesPlan plan log run.0 run.2
+  -- behind the line at which a log is refused no more is pulled than a reader holds
+  pub stops : StopsAtRefusal source.given source.at_end plan log run.0 run.2
+
+-- a run on a plan and a log that goes on to the last line, whatever the lines say, by the texts that
+-- its command has for what the lines come to
+pub record RunsToEnd {R K : Type 0} (source : SourceOf R) (sink : SinkOf K)
+    (IsText : Network → List EventAt → State → Written → Type 0) (plan : List ℕ) (log : R)
+    (out : K) (run : R × K × Result Status RunError) : Type 0 where
+  -- the whole text went out, or a beginning where the sink failed, or nothing
+  pub prints : (text : List ℕ) → IsGiven source.given source.at_end log run.0 text →
+      Prints sink.taken sink.broken out run.1 run.2 (EventsText IsText plan text)
+  -- Read only where the source has failed, or a line has more than 2^64 - 1 bytes
+  pub reads : ReadsOn source.given source.coming source.broken source.at_end log run.0 run.2
+  -- if the plan is refused, the log is not touched; one that is no text never gives Memory
+  pub refuses : RefusesPlan plan log run.0 run.2

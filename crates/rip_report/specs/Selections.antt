@@ -1,5 +1,5 @@
 -- Which packets of a capture file are its link's, and what a log has of each.
-use Rattle.std.specs.Prelude.{◌≡◌, ◌⊎◌, ℕ, true, if◌then◌else◌, List, [], ◌∷◌, Option, Some, None, is_some}
+use Rattle.std.specs.Prelude.{◌≡◌, ◌≢◌, ◌⊎◌, ℕ, true, if◌then◌else◌, List, [], ◌∷◌, Option, Some, None, is_some}
 use Rattle.rip_capture.specs.Carries.{Carries}
 use Rattle.rip_capture.specs.Interfaces.{Named}
 use Rattle.rip_capture.specs.Origins.{IsOrigin, Origin}
@@ -11,26 +11,29 @@ use Rattle.rip_capture.specs.declared.packet.Carried.TheVariants.{Datagram, Cut,
 use Rattle.rip_report.specs.declared.captures.logged.Logged.{Logged}
 use Rattle.rip_report.specs.declared.captures.logged.Logged.TheVariants.{As, Mixed}
 use Rattle.rip_report.specs.declared.captures.part.FilePart.{FilePart}
-use Rattle.rip_report.specs.declared.captures.part.Selection.{Selection}
-use Rattle.rip_report.specs.declared.captures.part.Selection.TheVariants as given
+use Rattle.rip_report.specs.declared.captures.part.Selection.{Selection as Given}
 
--- the packets of a file that are its link's: all, which have to come from one place; or those of an
--- interface, where a name is given, and of just these VLANs, where there are any
-pub data Choice : Type 0 where
-  OneOrigin : Choice
-  Of : List ℕ → List ℕ → Choice
+-- the packets of a file that are its link's: those of an interface, where one is named, and of just
+-- these VLANs, where any are; where nothing is named, all, and those of known senders have to come
+-- from one place
+pub record Selection : Type 0 where
+  pub interface : List ℕ
+  pub vlans : List ℕ
 
-abbrev pub choice_of : Selection → Choice
-choice_of given.OneOrigin = OneOrigin
-choice_of (given.Of name vlans) = Of name.now vlans.now
+abbrev pub selection_of : Given → Selection
+selection_of given = record { interface = given.interface.now; vlans = given.vlans.now }
+
+-- neither an interface is named nor a VLAN
+abbrev pub nothing_named : Selection
+nothing_named = record { interface = []; vlans = [] }
 
 -- a link, and which packets of a file are its own
 pub record Part : Type 0 where
   pub link : List ℕ
-  pub choice : Choice
+  pub selection : Selection
 
 abbrev pub part_of : FilePart → Part
-part_of part = record { link = part.link.now; choice = choice_of part.packets }
+part_of part = record { link = part.link.now; selection = selection_of part.selection }
 
 -- a packet, what it carries, what a log has of it, and the time in front of its line, if there is
 -- one
@@ -38,7 +41,7 @@ pub record Carrier : Type 0 where
   pub frame : Frame
   pub carried : Carried
   pub logged : Logged
-  pub at : Option DateTime
+  pub time : Option DateTime
 
 -- it carries that
 abbrev pub IsCarrier : Carrier → Type 0
@@ -63,6 +66,11 @@ pub record HaveOneOrigin (p q : Frame) : Type 0 where
   pub first : IsOrigin p origin
   pub second : IsOrigin q origin
 
+-- a packet comes from where the first one came, if its sender is known
+abbrev pub ComesFrom : Option Frame → Frame → Carried → Type 0
+ComesFrom None p carried = Unit {0}
+ComesFrom (Some first) p carried = is_some (sender_of carried) ≡ true → HaveOneOrigin first p
+
 -- a packet came by the interface of this name, where one is given
 abbrev pub OfInterface : List ℕ → Frame → Type 0
 OfInterface [] p = Unit {0}
@@ -73,29 +81,28 @@ abbrev pub OfVlans : List ℕ → Frame → Type 0
 OfVlans [] p = Unit {0}
 OfVlans (vlan ∷ vlans) p = HasVlans p.link_type p.bytes (vlan ∷ vlans)
 
--- a packet is its link's: it comes from where the first one came whose sender is known; or it is of
--- the interface and the VLANs that are asked for, but of one that is cut before its end the tags
--- may not be there
-abbrev pub Belongs : Choice → Option Frame → Frame → Carried → Type 0
-Belongs OneOrigin None p carried = Unit {0}
-Belongs OneOrigin (Some first) p carried =
-    is_some (sender_of carried) ≡ true → HaveOneOrigin first p
-Belongs (Of name vlans) first p carried =
-    OfInterface name p × ((carried ≡ Unknown) ⊎ OfVlans vlans p)
+-- a packet is its link's: it is of the interface and the VLANs that are named, but of one that is
+-- cut before its end the tags may not be there; and where nothing is named, it comes from where the
+-- first one came whose sender is known
+pub record Belongs (selection : Selection) (first : Option Frame) (p : Frame) (carried : Carried)
+    : Type 0 where
+  pub interface : OfInterface selection.interface p
+  pub vlans : (carried ≡ Unknown) ⊎ OfVlans selection.vlans p
+  pub origin : selection ≡ nothing_named → ComesFrom first p carried
 
 -- ---- what a log has of packets
 
 -- what a log has of a packet, behind the first one whose sender is known: what it carries; or that
 -- it comes from elsewhere than that one; or nothing
-pub data IsLogged (choice : Choice) (first : Option Frame) (p : Frame) (carried : Carried)
+pub data IsLogged (selection : Selection) (first : Option Frame) (p : Frame) (carried : Carried)
     (logged : Logged) : Type 0 where
-  own : Belongs choice first p carried → logged ≡ As carried →
-      IsLogged choice first p carried logged
-  mixed : (sender : ℕ) → choice ≡ OneOrigin → ¬ Belongs choice first p carried →
+  own : Belongs selection first p carried → logged ≡ As carried →
+      IsLogged selection first p carried logged
+  mixed : (sender : ℕ) → selection ≡ nothing_named → ¬ Belongs selection first p carried →
       sender_of carried ≡ Some sender → logged ≡ Mixed sender →
-      IsLogged choice first p carried logged
-  other : (name vlans : List ℕ) → choice ≡ Of name vlans → ¬ Belongs choice first p carried →
-      logged ≡ As Others → IsLogged choice first p carried logged
+      IsLogged selection first p carried logged
+  other : selection ≢ nothing_named → ¬ Belongs selection first p carried → logged ≡ As Others →
+      IsLogged selection first p carried logged
 
 -- the first packet whose sender is known, behind one more
 abbrev pub first_with : Option Frame → Frame → Carried → Option Frame
@@ -103,11 +110,11 @@ first_with (Some first) p carried = Some first
 first_with None p carried = if is_some (sender_of carried) then Some p else None
 
 -- what a log has of packets, one after the other
-abbrev pub AreLogged : Choice → Option Frame → List Carrier → Type 0
-AreLogged choice first [] = Unit {0}
-AreLogged choice first (c ∷ carriers) =
-    IsLogged choice first c.frame c.carried c.logged
-    × AreLogged choice (first_with first c.frame c.carried) carriers
+abbrev pub AreLogged : Selection → Option Frame → List Carrier → Type 0
+AreLogged selection first [] = Unit {0}
+AreLogged selection first (c ∷ carriers) =
+    IsLogged selection first c.frame c.carried c.logged
+    × AreLogged selection (first_with first c.frame c.carried) carriers
 
 -- the first packet whose sender is known, behind these
 abbrev pub first_behind : Option Frame → List Carrier → Option Frame

@@ -6,7 +6,6 @@ use Rattle.rip_plan.specs.Network.{Network}
 use Rattle.rip_plan.specs.declared.parts.Interface.{Interface}
 use Rattle.rip_table.specs.State.{State}
 use Rattle.rip_report.specs.Lines.{interface_name, unheard_line}
-use Rattle.rip_report.specs.ReportText.{ReportText}
 use Rattle.rip_report.specs.Written.{Written, line}
 use Rattle.rip_report.specs.declared.status.Status.TheVariants.{Done}
 
@@ -42,7 +41,6 @@ shown_table n s = record {
   status = Done;
 }
 
--- what is written for the bytes of a plan and the text of a log: what refuses them, or the table of
--- the log's records
-abbrev pub TableText : List ℕ → List ℕ → Written → Type 0
-TableText plan log = ReportText (λ n s w. w ≡ shown_table n s) plan log
+-- what is written of a table
+abbrev pub TableText : Network → State → Written → Type 0
+TableText n s w = w ≡ shown_table n s

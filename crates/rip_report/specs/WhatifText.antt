@@ -10,7 +10,7 @@ use Rattle.rip_check.specs.declared.failures.Failure.{Failure}
 use Rattle.rip_check.specs.declared.failures.Failure.TheVariants.{Link, Router}
 use Rattle.rip_report.specs.Listings.{TextsBelow, TextsOfPairs}
 use Rattle.rip_report.specs.Names.{name_of}
-use Rattle.rip_report.specs.PlanText.{OfPlan, prefix_of}
+use Rattle.rip_report.specs.PlanText.{prefix_of}
 use Rattle.rip_report.specs.Written.{Written, line}
 use Rattle.rip_report.specs.declared.status.Status.TheVariants.{Done}
 use Rattle.rip_report.specs.declared.whatif.Kind.{Kind}
@@ -110,9 +110,6 @@ pub data FailureTexts (all : Bool) (n : Network) : Written → Type 0 where
         text = whatif_line n ++ (links ++ (routers ++ losing_line losing_links losing_routers));
         status = Done;
       })
-
-abbrev pub WhatifText : Bool → List ℕ → Written → Type 0
-WhatifText all = OfPlan (FailureTexts all)
 
 -- the failure of one of a kind, by its number, how many there are, what is printed of one, and that
 -- its failure loses something

@@ -1,31 +1,31 @@
 //! The command `audit`: whether the tables that a log shows are right.
 
-ghost use Rattle.std.specs.Prelude.{◌≡◌, ◌≢◌, ◌↔◌, ℕ, List, Err, IfOk, IfSome, None, is_err, is_some, true, Some};
+ghost use Rattle.std.specs.Prelude.{◌≡◌, ◌↔◌, ℕ, List, IfOk, IfSome, None, is_err, is_some, true, Some};
 ghost use Rattle.rip_plan.specs.Network.{Network};
 ghost use Rattle.rip_plan.specs.Relations.{IsPlain};
 ghost use Rattle.rip_table.specs.State.{Fits, State};
 ghost use Rattle.rip_check.specs.Marks.{AreUnsettled};
 ghost use Rattle.rip_check.specs.Verdicts.{IsVerdict, IsNextUnsettled};
-ghost use Rattle.rip_report.specs.AuditText.{AnswersRightly, AuditText, FailingText, IsJudged, ShowsPlainRightTables, UnsettledLine, UnsettledLines, VerdictText, verdict_status};
+ghost use Rattle.rip_report.specs.AuditText.{AnswersRightly, FailingText, IsJudged, ShowsPlainRightTables, UnsettledLine, UnsettledLines, VerdictText, verdict_status};
 ghost use Rattle.rip_report.specs.Finished.{AddsWritten};
 ghost use Rattle.rip_report.specs.Given.{IsGiven};
 ghost use Rattle.rip_report.specs.Outs.{AddsOne};
 ghost use Rattle.rip_report.specs.ReportText.{AreRead, IsAccepted};
-ghost use Rattle.rip_report.specs.Runs.{Reads, RefusesPlan, StopsAtRefusal};
-ghost use Rattle.rip_report.specs.Sent.{Prints};
+ghost use Rattle.rip_report.specs.Runs.{RunsOnLog};
 ghost use Rattle.rip_check.specs.Laws.{OneIsShown};
 ghost use Rattle.rip_check.specs.Told.{told};
 
+use crate::laws::accepted_tables;
 use crate::lines::verdicts::{push_settled_line, push_unclear_line, push_unsettled_line};
 use crate::loops::{PairText, add_pairs};
 use crate::output::Out;
 use crate::report::{Report, run_report};
 use crate::status::{RunError, Status};
-use rip_check::laws::{one_set_of_tables, plain_paths};
+use rip_check::laws::plain_paths;
 use rip_check::{Case, Place2, Unsettled, Verdict, judge};
 use rip_log::{Sink, Source};
 use rip_plan::Plan;
-use rip_table::MetricTable;
+use rip_table::Table;
 use std::alloc::{AllocError, Global};
 use std::hash::BuildHasher;
 
@@ -34,7 +34,7 @@ impl PairText for Unsettled {
 
     ghost is_text = { λ _ n s. FailingText n s (UnsettledLine n s) };
 
-    fn add<T: MetricTable, K: Sink>(&self, out: &mut Out<K>, case: &Case<'_, T>, router: usize) {
+    fn add<T: Table, K: Sink>(&self, out: &mut Out<K>, case: &Case<'_, T>, router: usize) {
         case.plan.lawful();
         if let Some(place) = self.at(case, router) {
             push_unsettled_line(out, case.plan, case.table, &place);
@@ -44,7 +44,7 @@ impl PairText for Unsettled {
 
 /// Adds the lines of an unsettled network: those of all places that do not hold, where they were
 /// found, or that of the first. The contract names `all`, and the code sees it by `places`.
-fn add_unsettled<T: MetricTable, K: Sink>(
+fn add_unsettled<T: Table, K: Sink>(
     out: &mut Out<K>,
     plan: &Plan,
     table: &T,
@@ -78,7 +78,7 @@ fn status_of(verdict: &Verdict) -> Status
 }
 
 /// Adds the text of a verdict.
-fn add_verdict<T: MetricTable, K: Sink>(
+fn add_verdict<T: Table, K: Sink>(
     out: &mut Out<K>,
     plan: &Plan,
     table: &T,
@@ -105,7 +105,7 @@ fn add_verdict<T: MetricTable, K: Sink>(
 
 /// The places that do not hold, where all of them are to be written: the verdict is Unsettled, and
 /// `all` is asked for.
-fn places_of<T: MetricTable>(
+fn places_of<T: Table>(
     alloc: Global,
     plan: &Plan,
     table: &T,
@@ -127,7 +127,7 @@ fn places_of<T: MetricTable>(
 }
 
 /// Judges a table and adds the verdict.
-fn add_audit<T: MetricTable, K: Sink>(
+fn add_audit<T: Table, K: Sink>(
     alloc: Global,
     out: &mut Out<K>,
     plan: &Plan,
@@ -157,7 +157,7 @@ impl Report for Audit {
 
     ghost means = { λ audit n s. IsJudged n s };
 
-    fn add<T: MetricTable, K: Sink>(
+    fn add<T: Table, K: Sink>(
         &self,
         alloc: Global,
         out: &mut Out<K>,
@@ -200,17 +200,10 @@ pub fn run_audit<R: Source, K: Sink, S: BuildHasher + Drop>(
     ensures judged { (text : List ℕ) → IsGiven R.given R.at_end log result.0 text →
         (n : Network) (s : State) → IsAccepted plan.now text n s →
         IfOk result.2 (IsJudged n s) }
-    // The whole text went out, or a beginning where the sink failed, or nothing.
-    ensures prints { (text : List ℕ) → IsGiven R.given R.at_end log result.0 text →
-        Prints K.taken K.broken out result.1 result.2 (AuditText plan.now text all) }
-    // What is printed of a table comes only at the source's end, and Read only where it has failed.
-    ensures reads { Reads R.given R.coming R.broken R.at_end log result.0 result.2 }
-    // If the plan is refused, the log is not touched; one that is no text never gives Memory.
-    ensures refuses { RefusesPlan plan.now log result.0 result.2 }
-    // Behind the line at which a log is refused no more is pulled than a reader holds.
-    ensures stops { StopsAtRefusal R.given R.at_end plan.now log result.0 result.2 }
+    // What it prints and leaves, by the text of the verdict.
+    ensures runs { RunsOnLog R.Source K.Sink (λ n s. VerdictText n s all) plan.now log out result }
 {
-    one_set_of_tables();
+    accepted_tables();
     plain_paths();
     run_report(alloc, &Audit { all }, plan, log, out, hasher)
 }

@@ -6,9 +6,9 @@ ghost use Rattle.rip_table.specs.Events.{EventAt};
 ghost use Rattle.rip_table.specs.State.{Fits, State, new_state};
 ghost use Rattle.rip_report.specs.Finished.{AddsWritten};
 ghost use Rattle.rip_report.specs.Given.{IsGiven};
-ghost use Rattle.rip_report.specs.Hearings.{EventsOf, EventsText, OfAccepted};
+ghost use Rattle.rip_report.specs.Hearings.{EventsOf, OfAccepted};
 ghost use Rattle.rip_report.specs.ReportText.{IsAccepted};
-ghost use Rattle.rip_report.specs.Runs.{ReadsOn, RefusesPlan};
+ghost use Rattle.rip_report.specs.Runs.{ReadsOn, RunsToEnd};
 ghost use Rattle.rip_report.specs.Sent.{Prints, WentOut};
 ghost use Rattle.rip_report.specs.Written.{Written};
 
@@ -20,7 +20,7 @@ use crate::status::{RunError, Status};
 use rip_log::{Sink, Source};
 use rip_plan::Plan;
 use rip_plan::laws::{one_plan, well_formed_texts};
-use rip_table::{Counts, GridTable, Listener, MetricTable};
+use rip_table::{Counts, GridTable, Listener, MetricTable, Table};
 use std::alloc::{AllocError, Global};
 use std::hash::BuildHasher;
 
@@ -32,7 +32,7 @@ pub(crate) trait EventReport<L: Listener> {
 
     /// Adds what there is to say of a table, and of what a listener has heard; or nothing where a
     /// growth is refused.
-    fn add<T: MetricTable, K: Sink>(
+    fn add<T: Table, K: Sink>(
         &self,
         alloc: Global,
         out: &mut Out<K>,
@@ -47,7 +47,7 @@ pub(crate) trait EventReport<L: Listener> {
 }
 
 /// Writes what a command tells of a table, and of what a listener has heard.
-fn write_events<C: EventReport<L>, L: Listener, T: MetricTable, K: Sink>(
+fn write_events<C: EventReport<L>, L: Listener, T: Table, K: Sink>(
     alloc: Global,
     command: &C,
     plan: &Plan,
@@ -137,15 +137,11 @@ pub(crate) fn run_counted<C: EventReport<Counts>, R: Source, K: Sink, S: BuildHa
     out: K,
     hasher: S,
 ) -> (R, K, Result<Status, RunError>)
-    ensures prints { (text : List ℕ) → IsGiven R.given R.at_end log result.0 text →
-        Prints K.taken K.broken out result.1 result.2
-        (EventsText (C.is_text command.now) plan.now text) }
-    ensures reads { ReadsOn R.given R.coming R.broken R.at_end log result.0 result.2 }
+    ensures runs { RunsToEnd R.Source K.Sink (C.is_text command.now) plan.now log out result }
     // Of a log that is accepted nothing is left out.
     ensures accepted { (text : List ℕ) → IsGiven R.given R.at_end log result.0 text →
         (n : Network) (s : State) → IsAccepted plan.now text n s → IfOk result.2
         (WentOut (OfAccepted (C.is_text command.now) n s) (K.taken out) (K.taken result.1)) }
-    ensures refuses { RefusesPlan plan.now log result.0 result.2 }
 {
     one_plan();
     well_formed_texts();

@@ -1,14 +1,13 @@
 //! The command `expect`: the right routes of a plan.
 
-ghost use Rattle.std.specs.Prelude.{◌≢◌, ◌<◌, Err, length};
+ghost use Rattle.std.specs.Prelude.{◌<◌, length};
 ghost use Rattle.rip_check.specs.Expected.{AreExpected};
 ghost use Rattle.rip_check.specs.declared.way.Way.TheVariants.{Over};
-ghost use Rattle.rip_report.specs.ExpectText.{ExpectText, ExpectedRoutes, OverLines, PairLines, RouterLines, WayLine, expect_line, route_line, unreachable_part};
+ghost use Rattle.rip_report.specs.ExpectText.{ExpectedRoutes, OverLines, PairLines, RouterLines, WayLine, expect_line, route_line, unreachable_part};
 ghost use Rattle.rip_report.specs.Listings.{TextsBelow};
 ghost use Rattle.rip_report.specs.Names.{IsKnownWay};
 ghost use Rattle.rip_report.specs.Outs.{Adds, AddsOne};
-ghost use Rattle.rip_report.specs.PlanText.{IsNoText};
-ghost use Rattle.rip_report.specs.Sent.{Prints};
+ghost use Rattle.rip_report.specs.Runs.{RunsOnPlan};
 
 use crate::loops::{NumberText, add_below};
 use crate::names::{push_counts, push_router, push_way};
@@ -198,9 +197,7 @@ impl PlanReport for Expect {
 /// tables are once the network has settled. The sink comes back. It allocates a byte for each
 /// router and prefix, beside the plan.
 pub fn run_expect<K: Sink>(alloc: Global, plan: &[u8], out: K) -> (K, Result<Status, RunError>)
-    ensures prints { Prints K.taken K.broken out result.0 result.1 (ExpectText plan.now) }
-    ensures read { result.1 ≢ Err RunError.Read }
-    ensures no_text { IsNoText plan.now → result.1 ≢ Err RunError.Memory }
+    ensures runs { RunsOnPlan K.Sink ExpectedRoutes plan.now out result }
 {
     run_plan_report(alloc, &Expect, plan, out)
 }

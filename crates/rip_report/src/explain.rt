@@ -18,10 +18,11 @@ ghost use Rattle.rip_check.specs.Told.{told};
 ghost use Rattle.rip_report.specs.AuditText.{AllFailing, AnswersRightly, IsJudged, ShowsPlainRightTables};
 ghost use Rattle.rip_report.specs.ExplainText.{BeginsWithVerdict, ExplainText, ExplainsAll, PlaceLines, UnreachableLine};
 ghost use Rattle.rip_report.specs.Outs.{AddsOne};
-ghost use Rattle.rip_report.specs.ReportText.{AreRead, IsAccepted, ReportText};
-ghost use Rattle.rip_report.specs.Runs.{Reads, RefusesPlan, StopsAtRefusal};
-ghost use Rattle.rip_report.specs.Sent.{Prints, WentOut};
+ghost use Rattle.rip_report.specs.ReportText.{AreRead, IsAccepted};
+ghost use Rattle.rip_report.specs.Runs.{RunsOnLog};
+ghost use Rattle.rip_report.specs.Sent.{WentOut};
 
+use crate::laws::accepted_tables;
 use crate::lines::verdicts::push_settled_line;
 use crate::loops::{PairText, add_pairs};
 use crate::output::Out;
@@ -29,11 +30,11 @@ use crate::report::{Report, run_report};
 use crate::status::{RunError, Status};
 use lines::push_unreachable_line;
 use places::{FailingPlaces, add_place};
-use rip_check::laws::{one_set_of_tables, plain_paths};
+use rip_check::laws::plain_paths;
 use rip_check::{Case, Expected, Place2, Unclear, Unsettled, Verdict, judge, least_metric};
 use rip_log::{Sink, Source};
 use rip_plan::Plan;
-use rip_table::MetricTable;
+use rip_table::Table;
 use std::alloc::{AllocError, Global};
 use std::hash::BuildHasher;
 use troubles::add_unclear;
@@ -49,7 +50,7 @@ impl PairText for Unreachable {
 
     ghost is_text = { λ _ n s r p. UnreachableLine n s r p };
 
-    fn add<T: MetricTable, K: Sink>(&self, out: &mut Out<K>, case: &Case<'_, T>, router: usize) {
+    fn add<T: Table, K: Sink>(&self, out: &mut Out<K>, case: &Case<'_, T>, router: usize) {
         if case.prefix < case.plan.prefixes()
             && self.expected.metric(case.plan, router, case.prefix).get() == 16
         {
@@ -59,7 +60,7 @@ impl PairText for Unreachable {
 }
 
 /// Adds that a network has settled, and which planned prefixes its routers cannot reach.
-fn add_settled<T: MetricTable, K: Sink>(
+fn add_settled<T: Table, K: Sink>(
     alloc: Global,
     out: &mut Out<K>,
     plan: &Plan,
@@ -77,12 +78,7 @@ fn add_settled<T: MetricTable, K: Sink>(
 }
 
 /// Adds the first place that does not hold, and what it comes from.
-fn add_first_place<T: MetricTable, K: Sink>(
-    out: &mut Out<K>,
-    plan: &Plan,
-    table: &T,
-    place: &Place2,
-)
+fn add_first_place<T: Table, K: Sink>(out: &mut Out<K>, plan: &Plan, table: &T, place: &Place2)
     requires fits { Fits plan.now (T.state table.now) }
     requires first { IsNextUnsettled plan.now (told plan.now (T.state table.now)) None place.now }
     ensures { AddsOne out.old out.new (PlaceLines plan.now (T.state table.now) place.now) }
@@ -93,7 +89,7 @@ fn add_first_place<T: MetricTable, K: Sink>(
 }
 
 /// Adds all places that do not hold, and what they come from.
-fn add_places<T: MetricTable, K: Sink>(
+fn add_places<T: Table, K: Sink>(
     alloc: Global,
     out: &mut Out<K>,
     plan: &Plan,
@@ -111,7 +107,7 @@ fn add_places<T: MetricTable, K: Sink>(
 }
 
 /// Adds the first place that does not hold, or all, and what they come from.
-fn add_unsettled<T: MetricTable, K: Sink>(
+fn add_unsettled<T: Table, K: Sink>(
     alloc: Global,
     out: &mut Out<K>,
     plan: &Plan,
@@ -132,7 +128,7 @@ fn add_unsettled<T: MetricTable, K: Sink>(
 }
 
 /// Judges a table, and adds the verdict and what it comes from.
-fn add_explained<T: MetricTable, K: Sink>(
+fn add_explained<T: Table, K: Sink>(
     alloc: Global,
     out: &mut Out<K>,
     plan: &Plan,
@@ -165,7 +161,7 @@ impl Report for Explain {
 
     ghost means = { λ explain n s. IsJudged n s };
 
-    fn add<T: MetricTable, K: Sink>(
+    fn add<T: Table, K: Sink>(
         &self,
         alloc: Global,
         out: &mut Out<K>,
@@ -219,14 +215,9 @@ pub fn run_explain<R: Source, K: Sink, S: BuildHasher + Drop>(
     ensures places { all ≡ true → (text : List ℕ) → IsGiven R.given R.at_end log result.0 text →
         (n : Network) (s : State) → IsAccepted plan.now text n s →
         IfOk result.2 (WentOut (ExplainsAll n s) (K.taken out) (K.taken result.1)) }
-    ensures prints { (text : List ℕ) → IsGiven R.given R.at_end log result.0 text →
-        Prints K.taken K.broken out result.1 result.2
-        (ReportText (λ n s. ExplainText n s all) plan.now text) }
-    ensures reads { Reads R.given R.coming R.broken R.at_end log result.0 result.2 }
-    ensures refuses { RefusesPlan plan.now log result.0 result.2 }
-    ensures stops { StopsAtRefusal R.given R.at_end plan.now log result.0 result.2 }
+    ensures runs { RunsOnLog R.Source K.Sink (λ n s. ExplainText n s all) plan.now log out result }
 {
-    one_set_of_tables();
+    accepted_tables();
     plain_paths();
     run_report(alloc, &Explain { all }, plan, log, out, hasher)
 }

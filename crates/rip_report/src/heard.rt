@@ -6,15 +6,13 @@ mod nobody;
 mod strangers;
 mod who;
 
-ghost use Rattle.std.specs.Prelude.{◌≡◌, ℕ, List, length};
-ghost use Rattle.rip_report.specs.Given.{IsGiven};
+ghost use Rattle.std.specs.Prelude.{◌≡◌, List, length};
 ghost use Rattle.rip_report.specs.Hearings.{HeardOf};
 ghost use Rattle.rip_table.specs.Events.{EventAt};
 ghost use Rattle.rip_table.specs.Tallies.{HasHeard, interfaces_of};
 ghost use Rattle.rip_report.specs.HeardText.{HeardLines, HeardText, heard_line, heard_of, heard_status};
 ghost use Rattle.rip_report.specs.Outs.{Adds, AddsOne};
-ghost use Rattle.rip_report.specs.Runs.{ReadsOn, RefusesPlan};
-ghost use Rattle.rip_report.specs.Sent.{Prints};
+ghost use Rattle.rip_report.specs.Runs.{RunsToEnd};
 
 use crate::events::{EventReport, report_events};
 use crate::heard::interfaces::add_interfaces;
@@ -27,7 +25,7 @@ use crate::refusal::refuse_plan;
 use crate::status::{RunError, Status};
 use rip_log::{Sink, Source};
 use rip_plan::Plan;
-use rip_table::{Counts, MetricTable, Tallies};
+use rip_table::{Counts, Table, Tallies};
 use std::alloc::{AllocError, Global};
 use std::hash::BuildHasher;
 
@@ -112,9 +110,9 @@ fn add_heard<S: BuildHasher + Drop, K: Sink>(
 struct Heard;
 
 impl<S: BuildHasher + Drop> EventReport<Tallies<S>> for Heard {
-    ghost is_text = { λ _ n events s. HeardText n events };
+    ghost is_text = { λ _. HeardOf };
 
-    fn add<T: MetricTable, K: Sink>(
+    fn add<T: Table, K: Sink>(
         &self,
         _: Global,
         out: &mut Out<K>,
@@ -140,11 +138,7 @@ pub fn run_heard<R: Source, K: Sink, S: BuildHasher + Drop>(
     prefixes: S,
     strangers: S,
 ) -> (R, K, Result<Status, RunError>)
-    ensures prints { (text : List ℕ) → IsGiven R.given R.at_end log result.0 text →
-        Prints K.taken K.broken out result.1 result.2 (HeardOf plan.now text) }
-    // Read only where the source has failed, or a line has more than 2^64 - 1 bytes.
-    ensures reads { ReadsOn R.given R.coming R.broken R.at_end log result.0 result.2 }
-    ensures refuses { RefusesPlan plan.now log result.0 result.2 }
+    ensures runs { RunsToEnd R.Source K.Sink HeardOf plan.now log out result }
 {
     let plan = match Plan::read(alloc, plan) {
         Ok(plan) => plan,

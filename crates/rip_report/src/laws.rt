@@ -15,6 +15,8 @@ ghost use Rattle.rip_report.specs.declared.status.RunError.{RunError};
 ghost use Rattle.rip_report.specs.declared.status.Status.{Status};
 ghost use Rattle.rip_plan.specs.Network.{Network};
 ghost use Rattle.rip_plan.specs.Relations.{IsLawful};
+ghost use Rattle.rip_check.specs.Laws.{OneIsShown};
+ghost use Rattle.rip_check.specs.Told.{told};
 ghost use Rattle.rip_table.specs.Events.{EventAt};
 ghost use Rattle.rip_table.specs.LogJoin.{IsJoined};
 ghost use Rattle.rip_table.specs.State.{State, new_state};
@@ -28,6 +30,7 @@ ghost use Rattle.rip_report.specs.Sent.{WentOut};
 ghost use Rattle.rip_log.specs.Taken.{Taken};
 
 use rip_capture::laws::{one_origin, packet_bytes};
+use rip_check::laws::one_set_of_tables;
 use rip_log::laws::log_texts;
 use rip_plan::laws::{one_plan, well_formed_texts};
 use rip_table::laws::{calm_counts, calm_logs, lines_come_to, new_states, one_join};
@@ -47,6 +50,14 @@ pub fn accepted_logs()
     lines_come_to();
     calm_logs();
     calm_counts();
+}
+
+/// Of a plan and a log that are accepted no two sets of tables are shown.
+pub fn accepted_tables()
+    ensures { (plan text : List ℕ) (n : Network) (s : State) →
+        IsAccepted plan text n s → OneIsShown n (told n s) }
+{
+    one_set_of_tables();
 }
 
 /// Where a plan and a log are accepted, the headline of `audit` and of `explain` speaks of them, the

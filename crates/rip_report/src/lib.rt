@@ -1,5 +1,5 @@
 //! The texts of the commands that read a plan of a RIP-2 network, a log, or one datagram. What
-//! `prints`, `reads`, `refuses` and `stops` say of each run, CALLING.md says in words.
+//! `runs` says of each run, CALLING.md says in words.
 #![tactic(auto)]
 
 mod audit;

@@ -1,7 +1,7 @@
 //! What is written of each of many, one after the other: by their numbers, or of routers and
 //! prefixes.
 
-ghost use Rattle.std.specs.Prelude.{◌<◌, List, length, slice_index, ℕ};
+ghost use Rattle.std.specs.Prelude.{◌≡◌, ◌<◌, List, length, slice_index, ℕ};
 ghost use Rattle.rip_plan.specs.Network.{Network};
 ghost use Rattle.rip_table.specs.State.{Fits, State};
 ghost use Rattle.rip_check.specs.Cases.{network_of, state_of};
@@ -12,7 +12,7 @@ use crate::output::Out;
 use rip_check::Case;
 use rip_log::Sink;
 use rip_plan::Plan;
-use rip_table::MetricTable;
+use rip_table::Table;
 
 /// What is written of one of many, by its number: of an interface, a router or a prefix.
 pub(crate) trait NumberText {
@@ -28,21 +28,22 @@ pub(crate) trait NumberText {
         ensures { AddsOne out.old out.new (is_text self.now number) };
 }
 
-/// Adds the texts of the numbers below another.
+/// Adds the texts of the numbers below another, however a definition counts to it.
 pub(crate) fn add_below<E: NumberText, K: Sink>(out: &mut Out<K>, texts: &E, count: usize)
     requires { (i : ℕ) → i < count → E.is_for texts.now i }
-    ensures { AddsOne out.old out.new (TextsBelow (E.is_text texts.now) count) }
+    ensures { (k : ℕ) → count ≡ k → AddsOne out.old out.new (TextsBelow (E.is_text texts.now) k) }
 {
     for number in 0..count {
         texts.add(out, number);
     }
 }
 
-/// Adds the texts of the numbers of a list.
+/// Adds the texts of the numbers of a list, however a definition computes it.
 pub(crate) fn add_listed<E: NumberText, K: Sink>(out: &mut Out<K>, texts: &E, numbers: &[usize])
     requires { (k : ℕ) → k < length numbers.now →
         E.is_for texts.now (slice_index numbers.now k) }
-    ensures { AddsOne out.old out.new (TextsOf (E.is_text texts.now) numbers.now) }
+    ensures { (list : List ℕ) → numbers.now ≡ list →
+        AddsOne out.old out.new (TextsOf (E.is_text texts.now) list) }
 {
     for number in numbers {
         texts.add(out, *number);
@@ -58,7 +59,7 @@ pub(crate) trait PairText {
     ghost is_text: { Self → Network → State → ℕ → ℕ → List ℕ → Type 0 };
 
     /// Adds the text of a router and the prefix of a case.
-    fn add<T: MetricTable, K: Sink>(&self, out: &mut Out<K>, case: &Case<'_, T>, router: usize)
+    fn add<T: Table, K: Sink>(&self, out: &mut Out<K>, case: &Case<'_, T>, router: usize)
         requires fits { fits self.now (network_of case.now) (state_of case.now) }
         requires router { router < length (network_of case.now).routers }
         ensures { AddsOne out.old out.new
@@ -66,7 +67,7 @@ pub(crate) trait PairText {
 }
 
 /// Adds the texts of a router and each prefix.
-fn add_row<E: PairText, T: MetricTable, K: Sink>(
+fn add_row<E: PairText, T: Table, K: Sink>(
     out: &mut Out<K>,
     texts: &E,
     plan: &Plan,
@@ -86,7 +87,7 @@ fn add_row<E: PairText, T: MetricTable, K: Sink>(
 }
 
 /// Adds the texts of all routers and prefixes, router by router.
-pub(crate) fn add_pairs<E: PairText, T: MetricTable, K: Sink>(
+pub(crate) fn add_pairs<E: PairText, T: Table, K: Sink>(
     out: &mut Out<K>,
     texts: &E,
     plan: &Plan,

@@ -3,7 +3,7 @@
 ghost use Rattle.std.specs.Prelude.{◌≡◌, ◌≢◌, ◌∷◌, ◌++◌, [], true, false, decimal, is_err, Err};
 ghost use Rattle.rip_report.specs.Finished.{Answers, EndsWith};
 ghost use Rattle.rip_report.specs.Names.{numbered};
-ghost use Rattle.rip_report.specs.Outs.{Adds, IsOnItsWay};
+ghost use Rattle.rip_report.specs.Outs.{Adds, HasGoneOut, IsOnItsWay};
 ghost use Rattle.rip_report.specs.Sent.{Writes, sink_state};
 ghost use Rattle.rip_wire.specs.Address.{address_text};
 ghost use Rattle.rip_wire.specs.Prefix.{prefix_text};
@@ -144,7 +144,8 @@ impl<K: Sink> Out<K> {
 
     /// Sends what has not gone out yet, so that it need not wait for more.
     pub(crate) fn send(&mut self)
-        ensures { Adds self.old self.new [] }
+        ensures adds { Adds self.old self.new [] }
+        ensures sent { HasGoneOut self.new }
     {
         self.page.clear(&mut self.sink, &mut self.wrote);
     }

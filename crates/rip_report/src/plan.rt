@@ -1,10 +1,10 @@
 //! The command `plan`: the parts of a plan.
 
-ghost use Rattle.std.specs.Prelude.{◌≡◌, ◌≢◌, ◌<◌, Err, IfSome, length};
+ghost use Rattle.std.specs.Prelude.{◌<◌, IfSome, length};
 ghost use Rattle.std.specs.List.{flat_map};
 ghost use Rattle.rip_report.specs.Outs.{Adds};
-ghost use Rattle.rip_report.specs.PlanText.{IsNoText, IsSeat, PlanText, address_part, also_text, attached_text, counts_line, direct_text, gateway_text, interface_line, interface_lines, interface_text, kept_text, place_line, poison_text, seat_text, shown_plan};
-ghost use Rattle.rip_report.specs.Sent.{Prints};
+ghost use Rattle.rip_report.specs.PlanText.{IsSeat, PlanText, address_part, also_text, attached_text, counts_line, direct_text, gateway_text, interface_line, interface_lines, interface_text, kept_text, place_line, poison_text, seat_text, shown_plan};
+ghost use Rattle.rip_report.specs.Runs.{RunsOnPlan};
 
 use crate::names::{push_link, push_router};
 use crate::output::Out;
@@ -214,7 +214,7 @@ fn push_plan<K: Sink>(out: &mut Out<K>, plan: &Plan)
 struct ShowPlan;
 
 impl PlanReport for ShowPlan {
-    ghost is_text = { λ _ n w. w ≡ shown_plan n };
+    ghost is_text = { λ _. PlanText };
 
     fn add<K: Sink>(&self, _: Global, out: &mut Out<K>, plan: &Plan) -> Result<Status, AllocError> {
         push_plan(out, plan);
@@ -224,9 +224,7 @@ impl PlanReport for ShowPlan {
 
 /// Prints the plan in a TOML document, or the document's first fault. The sink comes back.
 pub fn run_plan<K: Sink>(alloc: Global, plan: &[u8], out: K) -> (K, Result<Status, RunError>)
-    ensures prints { Prints K.taken K.broken out result.0 result.1 (PlanText plan.now) }
-    ensures read { result.1 ≢ Err RunError.Read }
-    ensures no_text { IsNoText plan.now → result.1 ≢ Err RunError.Memory }
+    ensures runs { RunsOnPlan K.Sink PlanText plan.now out result }
 {
     run_plan_report(alloc, &ShowPlan, plan, out)
 }

@@ -6,9 +6,8 @@ ghost use Rattle.rip_report.specs.Finished.{AddsWritten};
 ghost use Rattle.rip_report.specs.Given.{IsGiven};
 ghost use Rattle.rip_table.specs.State.{Fits, State, new_state};
 ghost use Rattle.rip_table.specs.declared.error.CollectError.{CollectError};
-ghost use Rattle.rip_report.specs.PlanText.{IsNoText, OfPlan};
-ghost use Rattle.rip_report.specs.ReportText.{AreRead, IsAccepted, IsTable, LogMakes, ReportOf, ReportText};
-ghost use Rattle.rip_report.specs.Runs.{PullsLittleBehind, Reads, RefusesPlan, StopsAtRefusal};
+ghost use Rattle.rip_report.specs.ReportText.{AreRead, IsAccepted, IsTable, LogMakes, ReportOf};
+ghost use Rattle.rip_report.specs.Runs.{PullsLittleBehind, Reads, RunsOnLog, RunsOnPlan};
 ghost use Rattle.rip_report.specs.Sent.{Prints, WentOut};
 ghost use Rattle.rip_report.specs.Written.{Written};
 
@@ -21,7 +20,7 @@ use rip_log::{Sink, Source};
 use rip_plan::Plan;
 use rip_plan::laws::{one_plan, well_formed_texts};
 use rip_table::laws::{new_states, one_join, refused_logs};
-use rip_table::{GridTable, MetricTable};
+use rip_table::{GridTable, MetricTable, Table};
 use std::alloc::{AllocError, Global};
 use std::hash::BuildHasher;
 
@@ -47,11 +46,7 @@ pub(crate) fn run_plan_report<C: PlanReport, K: Sink>(
     plan: &[u8],
     out: K,
 ) -> (K, Result<Status, RunError>)
-    ensures prints { Prints K.taken K.broken out result.0 result.1
-        (OfPlan (C.is_text command.now) plan.now) }
-    ensures read { result.1 ≢ Err RunError.Read }
-    // Too many bytes, or bytes that are not UTF-8, never give Memory.
-    ensures no_text { IsNoText plan.now → result.1 ≢ Err RunError.Memory }
+    ensures runs { RunsOnPlan K.Sink (C.is_text command.now) plan.now out result }
 {
     match Plan::read(alloc, plan) {
         Ok(plan) => {
@@ -70,11 +65,11 @@ pub(crate) trait Report {
     // The texts that it may tell of a table, each with its status.
     ghost is_text: { Self → Network → State → Written → Type 0 };
 
-    // What its status says of the table, beside its text.
-    ghost means: { Self → Network → State → Status → Type 0 };
+    // What its status says of the table, beside its text, where it says more.
+    ghost means: { Self → Network → State → Status → Type 0 } = { λ _ _ _ _. Unit {0} };
 
     /// Adds what there is to say of a table, or nothing where a growth is refused.
-    fn add<T: MetricTable, K: Sink>(
+    fn add<T: Table, K: Sink>(
         &self,
         alloc: Global,
         out: &mut Out<K>,
@@ -88,7 +83,7 @@ pub(crate) trait Report {
 }
 
 /// Writes what a command tells of a table.
-fn write_report<C: Report, T: MetricTable, K: Sink>(
+fn write_report<C: Report, T: Table, K: Sink>(
     alloc: Global,
     command: &C,
     plan: &Plan,
@@ -160,16 +155,7 @@ pub(crate) fn run_report<C: Report, R: Source, K: Sink, S: BuildHasher + Drop>(
     out: K,
     hasher: S,
 ) -> (R, K, Result<Status, RunError>)
-    // The whole text went out, or a beginning where the sink failed, or nothing.
-    ensures prints { (text : List ℕ) → IsGiven R.given R.at_end log result.0 text →
-        Prints K.taken K.broken out result.1 result.2
-        (ReportText (C.is_text command.now) plan.now text) }
-    // What is printed of a table comes only at the source's end, and Read only where it has failed.
-    ensures reads { Reads R.given R.coming R.broken R.at_end log result.0 result.2 }
-    // Where plan and log are accepted, the text is that of the table that the log shows.
-    ensures told { (text : List ℕ) → IsGiven R.given R.at_end log result.0 text →
-        (n : Network) (s : State) → IsAccepted plan.now text n s →
-        IfOk result.2 (WentOut (C.is_text command.now n s) (K.taken out) (K.taken result.1)) }
+    ensures runs { RunsOnLog R.Source K.Sink (C.is_text command.now) plan.now log out result }
     ensures meaning { (text : List ℕ) → IsGiven R.given R.at_end log result.0 text →
         (n : Network) (s : State) → IsAccepted plan.now text n s →
         IfOk result.2 (C.means command.now n s) }
@@ -177,10 +163,6 @@ pub(crate) fn run_report<C: Report, R: Source, K: Sink, S: BuildHasher + Drop>(
     ensures accepted { (text : List ℕ) → IsGiven R.given R.at_end log result.0 text →
         (n : Network) (s : State) → AreRead plan.now text n s →
         IfOk result.2 (λ status. status ≢ Status.Refused → IsAccepted plan.now text n s) }
-    // If the plan is refused, the log is not touched; one that is no text never gives Memory.
-    ensures refuses { RefusesPlan plan.now log result.0 result.2 }
-    // Behind the line at which a log is refused no more is pulled than a reader holds.
-    ensures stops { StopsAtRefusal R.given R.at_end plan.now log result.0 result.2 }
 {
     one_plan();
     well_formed_texts();

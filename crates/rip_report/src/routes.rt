@@ -7,17 +7,16 @@ ghost use Rattle.rip_report.specs.AnywayText.{AnywayRoutes};
 ghost use Rattle.rip_report.specs.Finished.{AddsWritten};
 ghost use Rattle.rip_report.specs.Given.{IsGiven};
 ghost use Rattle.rip_report.specs.Hearings.{RoutesAnyway};
-ghost use Rattle.rip_table.specs.Tallies.{counts_of};
 ghost use Rattle.rip_table.specs.State.{Fits, State};
 ghost use Rattle.rip_check.specs.Expected.{AreExpected};
 ghost use Rattle.rip_check.specs.Firsts.{AreHeardOf, IsFirstUnheardOf};
 ghost use Rattle.rip_report.specs.Lines.{IsKnownReason};
 ghost use Rattle.rip_report.specs.Names.{IsKnownWay};
 ghost use Rattle.rip_report.specs.Outs.{Adds, AddsOne};
-ghost use Rattle.rip_report.specs.ReportText.{IsAccepted, ReportText};
+ghost use Rattle.rip_report.specs.ReportText.{IsAccepted};
 ghost use Rattle.rip_report.specs.RoutesText.{IsRead, IsSilentRoute, RouteLine, RoutesLines, RoutesText, UnheardLine, least_part, pair_part, read_line, route_of, routes_line, unread_line};
-ghost use Rattle.rip_report.specs.Runs.{Reads, ReadsOn, RefusesPlan, StopsAtRefusal};
-ghost use Rattle.rip_report.specs.Sent.{Prints, WentOut};
+ghost use Rattle.rip_report.specs.Runs.{RunsOnLog, RunsToEnd};
+ghost use Rattle.rip_report.specs.Sent.{WentOut};
 
 use crate::events::{EventReport, run_counted};
 use crate::left_out::{anyway_status, push_left_out_line};
@@ -31,14 +30,14 @@ use crate::status::{RunError, Status};
 use rip_check::{Case, Expected, Route, Unclear, Way, unheard_link};
 use rip_log::{Sink, Source};
 use rip_plan::Plan;
-use rip_table::{Counts, MetricTable};
+use rip_table::{Counts, Table};
 use rip_wire::Metric;
 use std::alloc::{AllocError, Global};
 use std::hash::BuildHasher;
 
 /// Adds the line of the counts.
 #[tactic(auto, unfolding(crate::specs::RoutesText::routes_line))]
-fn push_counts_line<T: MetricTable, K: Sink>(out: &mut Out<K>, plan: &Plan, table: &T)
+fn push_counts_line<T: Table, K: Sink>(out: &mut Out<K>, plan: &Plan, table: &T)
     ensures { Adds out.old out.new (routes_line plan.now (T.state table.now)) }
 {
     out.push("routes: ");
@@ -47,7 +46,7 @@ fn push_counts_line<T: MetricTable, K: Sink>(out: &mut Out<K>, plan: &Plan, tabl
 }
 
 /// Adds a router and the prefix of a case, as `R P `.
-fn push_pair<T: MetricTable, K: Sink>(out: &mut Out<K>, case: &Case<'_, T>, router: usize)
+fn push_pair<T: Table, K: Sink>(out: &mut Out<K>, case: &Case<'_, T>, router: usize)
     requires { router < length (network_of case.now).routers }
     ensures { Adds out.old out.new
         (pair_part (network_of case.now) (state_of case.now) router case.now.prefix) }
@@ -70,7 +69,7 @@ fn push_least<K: Sink>(out: &mut Out<K>, metric: Metric, least: Metric)
 
 /// Adds the line of a route.
 #[tactic(auto, unfolding(crate::specs::RoutesText::read_line))]
-fn push_read_line<T: MetricTable, K: Sink>(
+fn push_read_line<T: Table, K: Sink>(
     out: &mut Out<K>,
     case: &Case<'_, T>,
     router: usize,
@@ -91,7 +90,7 @@ fn push_read_line<T: MetricTable, K: Sink>(
 
 /// Adds the line of a router and a prefix of which no route can be read.
 #[tactic(auto, unfolding(crate::specs::RoutesText::unread_line))]
-fn push_unread_line<T: MetricTable, K: Sink>(
+fn push_unread_line<T: Table, K: Sink>(
     out: &mut Out<K>,
     case: &Case<'_, T>,
     router: usize,
@@ -111,7 +110,7 @@ fn push_unread_line<T: MetricTable, K: Sink>(
 
 /// The link on which the router might show more than this route: it need not show such a route, and
 /// its interface there was not heard.
-fn unheard_behind<T: MetricTable>(case: &Case<'_, T>, router: usize, found: &Route) -> Option<usize>
+fn unheard_behind<T: Table>(case: &Case<'_, T>, router: usize, found: &Route) -> Option<usize>
     requires { router < length (network_of case.now).routers }
     ensures some { IfSome result (λ l. IsSilentRoute (route_of found.now) found.now.hidden
         × IsFirstUnheardOf (network_of case.now) (state_of case.now) router l) }
@@ -126,7 +125,7 @@ fn unheard_behind<T: MetricTable>(case: &Case<'_, T>, router: usize, found: &Rou
 }
 
 /// Adds the line of a router and a prefix whose route was read.
-fn add_found<T: MetricTable, K: Sink>(
+fn add_found<T: Table, K: Sink>(
     out: &mut Out<K>,
     case: &Case<'_, T>,
     expected: &Expected,
@@ -160,12 +159,12 @@ fn add_found<T: MetricTable, K: Sink>(
 
 /// Each interface of a table, where it was not heard.
 #[derive(Drop)]
-struct Unheard<'a, T: MetricTable> {
+struct Unheard<'a, T: Table> {
     plan: &'a Plan,
     table: &'a T,
 }
 
-impl<T: MetricTable> NumberText for Unheard<'_, T> {
+impl<T: Table> NumberText for Unheard<'_, T> {
     ghost is_for = { λ texts i. Fits texts.plan.now (T.state texts.table.now)
         × (i < length texts.plan.now.interfaces) };
 
@@ -190,7 +189,7 @@ impl PairText for RouteAndLeast {
 
     ghost is_text = { λ _ n s r p. RouteLine n s r p };
 
-    fn add<T: MetricTable, K: Sink>(&self, out: &mut Out<K>, case: &Case<'_, T>, router: usize) {
+    fn add<T: Table, K: Sink>(&self, out: &mut Out<K>, case: &Case<'_, T>, router: usize) {
         case.plan.lawful();
         match case.route(router) {
             Ok(found) => add_found(out, case, &self.expected, router, &found),
@@ -200,7 +199,7 @@ impl PairText for RouteAndLeast {
 }
 
 /// Adds the interfaces that were not heard, and a line for each router and prefix.
-fn add_lines<T: MetricTable, K: Sink>(out: &mut Out<K>, plan: &Plan, expected: Expected, table: &T)
+fn add_lines<T: Table, K: Sink>(out: &mut Out<K>, plan: &Plan, expected: Expected, table: &T)
     requires fits { Fits plan.now (T.state table.now) }
     requires expected { AreExpected plan.now expected }
     ensures { AddsOne out.old out.new (RoutesLines plan.now (T.state table.now)) }
@@ -210,7 +209,7 @@ fn add_lines<T: MetricTable, K: Sink>(out: &mut Out<K>, plan: &Plan, expected: E
 }
 
 /// Adds the routes of a table, with how much is left out of it after the counts.
-fn add_routes<T: MetricTable, K: Sink>(
+fn add_routes<T: Table, K: Sink>(
     alloc: Global,
     out: &mut Out<K>,
     plan: &Plan,
@@ -232,13 +231,9 @@ fn add_routes<T: MetricTable, K: Sink>(
 struct Routes;
 
 impl Report for Routes {
-    ghost use Rattle.rip_report.specs.declared.status.Status.{Status};
+    ghost is_text = { λ _. RoutesText };
 
-    ghost is_text = { λ _ n s. RoutesText n s };
-
-    ghost means = { λ _ n s status. Unit {0} };
-
-    fn add<T: MetricTable, K: Sink>(
+    fn add<T: Table, K: Sink>(
         &self,
         alloc: Global,
         out: &mut Out<K>,
@@ -250,9 +245,9 @@ impl Report for Routes {
 }
 
 impl EventReport<Counts> for Routes {
-    ghost is_text = { λ _ n events s. AnywayRoutes n s (counts_of events) };
+    ghost is_text = { λ _. RoutesAnyway };
 
-    fn add<T: MetricTable, K: Sink>(
+    fn add<T: Table, K: Sink>(
         &self,
         alloc: Global,
         out: &mut Out<K>,
@@ -275,16 +270,7 @@ pub fn run_routes<R: Source, K: Sink, S: BuildHasher + Drop>(
     out: K,
     hasher: S,
 ) -> (R, K, Result<Status, RunError>)
-    ensures prints { (text : List ℕ) → IsGiven R.given R.at_end log result.0 text →
-        Prints K.taken K.broken out result.1 result.2
-        (ReportText RoutesText plan.now text) }
-    ensures reads { Reads R.given R.coming R.broken R.at_end log result.0 result.2 }
-    // Where plan and log are accepted, they are the routes of the table that the log shows.
-    ensures told { (text : List ℕ) → IsGiven R.given R.at_end log result.0 text →
-        (n : Network) (s : State) → IsAccepted plan.now text n s →
-        IfOk result.2 (WentOut (RoutesText n s) (K.taken out) (K.taken result.1)) }
-    ensures refuses { RefusesPlan plan.now log result.0 result.2 }
-    ensures stops { StopsAtRefusal R.given R.at_end plan.now log result.0 result.2 }
+    ensures runs { RunsOnLog R.Source K.Sink RoutesText plan.now log out result }
 {
     run_report(alloc, &Routes, plan, log, out, hasher)
 }
@@ -301,15 +287,11 @@ pub fn run_routes_anyway<R: Source, K: Sink, S: BuildHasher + Drop>(
     out: K,
     hasher: S,
 ) -> (R, K, Result<Status, RunError>)
-    ensures prints { (text : List ℕ) → IsGiven R.given R.at_end log result.0 text →
-        Prints K.taken K.broken out result.1 result.2 (RoutesAnyway plan.now text) }
-    ensures reads { ReadsOn R.given R.coming R.broken R.at_end log result.0 result.2 }
+    ensures runs { RunsToEnd R.Source K.Sink RoutesAnyway plan.now log out result }
     // Of a log that is accepted it is what `routes` prints.
     ensures accepted { (text : List ℕ) → IsGiven R.given R.at_end log result.0 text →
         (n : Network) (s : State) → IsAccepted plan.now text n s →
-        IfOk result.2
-        (WentOut (RoutesText n s) (K.taken out) (K.taken result.1)) }
-    ensures refuses { RefusesPlan plan.now log result.0 result.2 }
+        IfOk result.2 (WentOut (RoutesText n s) (K.taken out) (K.taken result.1)) }
 {
     run_counted(alloc, &Routes, plan, log, out, hasher)
 }

@@ -5,14 +5,13 @@ ghost use Rattle.std.specs.List.{enumerate_from, flat_map};
 ghost use Rattle.rip_report.specs.AnywayText.{AnywayTable};
 ghost use Rattle.rip_report.specs.Given.{IsGiven};
 ghost use Rattle.rip_report.specs.Hearings.{TableAnyway};
-ghost use Rattle.rip_table.specs.Tallies.{counts_of};
 ghost use Rattle.rip_table.specs.State.{Fits, State};
 ghost use Rattle.rip_report.specs.Lines.{interface_name};
 ghost use Rattle.rip_report.specs.Outs.{Adds, AddsOne};
-ghost use Rattle.rip_report.specs.TableText.{TableText, interface_lines, prefix_lines, shown_lines, shown_table, table_line};
+ghost use Rattle.rip_report.specs.TableText.{TableText, interface_lines, prefix_lines, shown_lines, table_line};
 ghost use Rattle.rip_report.specs.ReportText.{IsAccepted};
-ghost use Rattle.rip_report.specs.Runs.{Reads, ReadsOn, RefusesPlan, StopsAtRefusal};
-ghost use Rattle.rip_report.specs.Sent.{Prints, WentOut};
+ghost use Rattle.rip_report.specs.Runs.{RunsOnLog, RunsToEnd};
+ghost use Rattle.rip_report.specs.Sent.{WentOut};
 ghost use Rattle.rip_report.specs.Texts.{AreOfMetrics, AreTexts, text_of};
 ghost use Rattle.rip_plan.specs.Network.{Network};
 ghost use Rattle.rip_plan.specs.declared.parts.Interface.{Interface};
@@ -27,7 +26,7 @@ use crate::status::{RunError, Status};
 use crate::texts::{FRONT_BYTES, METRICS, SHORT_BYTES, Text, Texts};
 use rip_log::{Sink, Source};
 use rip_plan::{Interface, Plan};
-use rip_table::{Counts, MetricTable};
+use rip_table::{Counts, Table};
 use rip_wire::Metric;
 use std::alloc::{AllocError, Global};
 use std::hash::BuildHasher;
@@ -81,7 +80,7 @@ fn push_prefix_line<K: Sink>(
 }
 
 /// Adds the lines of the prefixes that the interface of a number shows.
-fn push_shown_lines<T: MetricTable, K: Sink>(
+fn push_shown_lines<T: Table, K: Sink>(
     out: &mut Out<K>,
     plan: &Plan,
     table: &T,
@@ -103,7 +102,7 @@ fn push_shown_lines<T: MetricTable, K: Sink>(
 }
 
 /// Adds the lines of the interface of a number.
-fn push_interface_lines<T: MetricTable, K: Sink>(
+fn push_interface_lines<T: Table, K: Sink>(
     out: &mut Out<K>,
     plan: &Plan,
     table: &T,
@@ -126,7 +125,7 @@ fn push_interface_lines<T: MetricTable, K: Sink>(
 }
 
 /// Adds the lines of all interfaces.
-fn push_interfaces<T: MetricTable, K: Sink>(out: &mut Out<K>, plan: &Plan, table: &T)
+fn push_interfaces<T: Table, K: Sink>(out: &mut Out<K>, plan: &Plan, table: &T)
     requires { Fits plan.now (T.state table.now) }
     ensures { Adds out.old out.new (flat_map (interface_lines plan.now (T.state table.now))
         (enumerate_from 0 plan.now.interfaces)) }
@@ -139,7 +138,7 @@ fn push_interfaces<T: MetricTable, K: Sink>(out: &mut Out<K>, plan: &Plan, table
 }
 
 /// Adds a table, with how much is left out of it after its counts.
-fn add_table<T: MetricTable, K: Sink>(
+fn add_table<T: Table, K: Sink>(
     out: &mut Out<K>,
     plan: &Plan,
     table: &T,
@@ -157,16 +156,12 @@ fn add_table<T: MetricTable, K: Sink>(
 
 /// The command `table`.
 #[derive(Clone, Copy)]
-struct Table;
+struct TableCommand;
 
-impl Report for Table {
-    ghost use Rattle.rip_report.specs.declared.status.Status.{Status};
+impl Report for TableCommand {
+    ghost is_text = { λ _. TableText };
 
-    ghost is_text = { λ _ n s w. w ≡ shown_table n s };
-
-    ghost means = { λ _ n s status. Unit {0} };
-
-    fn add<T: MetricTable, K: Sink>(
+    fn add<T: Table, K: Sink>(
         &self,
         _: Global,
         out: &mut Out<K>,
@@ -177,10 +172,10 @@ impl Report for Table {
     }
 }
 
-impl EventReport<Counts> for Table {
-    ghost is_text = { λ _ n events s. AnywayTable n s (counts_of events) };
+impl EventReport<Counts> for TableCommand {
+    ghost is_text = { λ _. TableAnyway };
 
-    fn add<T: MetricTable, K: Sink>(
+    fn add<T: Table, K: Sink>(
         &self,
         _: Global,
         out: &mut Out<K>,
@@ -202,19 +197,9 @@ pub fn run_table<R: Source, K: Sink, S: BuildHasher + Drop>(
     out: K,
     hasher: S,
 ) -> (R, K, Result<Status, RunError>)
-    ensures prints { (text : List ℕ) → IsGiven R.given R.at_end log result.0 text →
-        Prints K.taken K.broken out result.1 result.2
-        (TableText plan.now text) }
-    ensures reads { Reads R.given R.coming R.broken R.at_end log result.0 result.2 }
-    // Where plan and log are accepted, it is the table that the log shows.
-    ensures told { (text : List ℕ) → IsGiven R.given R.at_end log result.0 text →
-        (n : Network) (s : State) → IsAccepted plan.now text n s →
-        IfOk result.2
-        (WentOut (λ w. w ≡ shown_table n s) (K.taken out) (K.taken result.1)) }
-    ensures refuses { RefusesPlan plan.now log result.0 result.2 }
-    ensures stops { StopsAtRefusal R.given R.at_end plan.now log result.0 result.2 }
+    ensures runs { RunsOnLog R.Source K.Sink TableText plan.now log out result }
 {
-    run_report(alloc, &Table, plan, log, out, hasher)
+    run_report(alloc, &TableCommand, plan, log, out, hasher)
 }
 
 /// Prints the table of what is not refused in a log, good or bad, with how much is left out of it,
@@ -229,15 +214,11 @@ pub fn run_table_anyway<R: Source, K: Sink, S: BuildHasher + Drop>(
     out: K,
     hasher: S,
 ) -> (R, K, Result<Status, RunError>)
-    ensures prints { (text : List ℕ) → IsGiven R.given R.at_end log result.0 text →
-        Prints K.taken K.broken out result.1 result.2 (TableAnyway plan.now text) }
-    ensures reads { ReadsOn R.given R.coming R.broken R.at_end log result.0 result.2 }
+    ensures runs { RunsToEnd R.Source K.Sink TableAnyway plan.now log out result }
     // Of a log that is accepted it is what `table` prints.
     ensures accepted { (text : List ℕ) → IsGiven R.given R.at_end log result.0 text →
         (n : Network) (s : State) → IsAccepted plan.now text n s →
-        IfOk result.2
-        (WentOut (λ w. w ≡ shown_table n s) (K.taken out) (K.taken result.1)) }
-    ensures refuses { RefusesPlan plan.now log result.0 result.2 }
+        IfOk result.2 (WentOut (TableText n s) (K.taken out) (K.taken result.1)) }
 {
-    run_counted(alloc, &Table, plan, log, out, hasher)
+    run_counted(alloc, &TableCommand, plan, log, out, hasher)
 }

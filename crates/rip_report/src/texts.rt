@@ -10,7 +10,7 @@ mod text;
 pub(crate) use self::text::Text;
 use crate::output::PREFIX_BYTES;
 use itoa::Buffer;
-use rip_table::{MOST_PREFIXES, MetricTable};
+use rip_table::{MOST_PREFIXES, Table};
 use rip_wire::Prefix;
 
 /// Room for each metric at its number, up to 16.
@@ -31,7 +31,7 @@ pub(crate) struct Texts {
 
 impl Texts {
     /// The texts for a table.
-    pub(crate) fn of<T: MetricTable>(table: &T) -> Texts
+    pub(crate) fn of<T: Table>(table: &T) -> Texts
         ensures { AreTexts (T.state table.now).prefixes result }
     {
         let mut texts = Texts {
@@ -66,7 +66,7 @@ fn of_metric(number: usize) -> Text<SHORT_BYTES>
 }
 
 /// Makes the texts of a table's prefixes.
-fn make_prefixes<T: MetricTable>(table: &T, texts: &mut [Text<SHORT_BYTES>; MOST_PREFIXES])
+fn make_prefixes<T: Table>(table: &T, texts: &mut [Text<SHORT_BYTES>; MOST_PREFIXES])
     ensures { AreOfPrefixes (T.state table.now).prefixes texts.new }
 {
     for k in 0..table.prefix_count() {

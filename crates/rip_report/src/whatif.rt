@@ -1,6 +1,6 @@
 //! The command `whatif`: what the failure of each link and of each router would cost.
 
-ghost use Rattle.std.specs.Prelude.{◌≡◌, ◌≢◌, ◌+◌, ◌<◌, Decides, Err, length};
+ghost use Rattle.std.specs.Prelude.{◌≡◌, ◌+◌, ◌<◌, Decides, length};
 ghost use Rattle.rip_check.specs.Expected.{AreExpected, IsCount};
 ghost use Rattle.rip_check.specs.Failures.{IsKnown};
 ghost use Rattle.rip_check.specs.Impacts.{HasRoom};
@@ -8,9 +8,8 @@ ghost use Rattle.rip_check.specs.Losses.{Loses};
 ghost use Rattle.rip_check.specs.Scenarios.{AreLosses};
 ghost use Rattle.rip_report.specs.Listings.{TextsBelow};
 ghost use Rattle.rip_report.specs.Outs.{Adds, AddsOne};
-ghost use Rattle.rip_report.specs.PlanText.{IsNoText};
-ghost use Rattle.rip_report.specs.Sent.{Prints};
-ghost use Rattle.rip_report.specs.WhatifText.{FailureText, FailureTexts, LineOfGone, LineOfLost, LinesOfLost, LosesOne, OneText, UnderText, WhatifText, count_of, failed_part, failure_line, failure_of, failures_part, farthest_part, gone_line, hit_part, losing_line, lost_line, whatif_line};
+ghost use Rattle.rip_report.specs.Runs.{RunsOnPlan};
+ghost use Rattle.rip_report.specs.WhatifText.{FailureText, FailureTexts, LineOfGone, LineOfLost, LinesOfLost, LosesOne, OneText, UnderText, count_of, failed_part, failure_line, failure_of, failures_part, farthest_part, gone_line, hit_part, losing_line, lost_line, whatif_line};
 
 use crate::loops::{NumberText, add_below};
 use crate::names::{push_link, push_router};
@@ -331,9 +330,7 @@ pub fn run_whatif<K: Sink>(
     out: K,
     all: bool,
 ) -> (K, Result<Status, RunError>)
-    ensures prints { Prints K.taken K.broken out result.0 result.1 (WhatifText all plan.now) }
-    ensures read { result.1 ≢ Err RunError.Read }
-    ensures no_text { IsNoText plan.now → result.1 ≢ Err RunError.Memory }
+    ensures runs { RunsOnPlan K.Sink (FailureTexts all) plan.now out result }
 {
     run_plan_report(alloc, &WhatIf { all }, plan, out)
 }

@@ -167,7 +167,10 @@ pub(crate) fn add<R: Read + Drop, W: Write>(
 ) -> (FromRead<R>, IntoWrite<W>, Result<Status, RunError>) {
     let part = FilePart {
         link,
-        packets: Selection::OneOrigin,
+        selection: Selection {
+            interface: &[][..],
+            vlans: &[][..],
+        },
     };
     add_part(rt, alloc, log, &part, file, out)
 }

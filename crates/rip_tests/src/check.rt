@@ -11,7 +11,7 @@ use rip_check::{
     next_unsettled, offer, route,
 };
 use rip_plan::Plan;
-use rip_table::MetricTable;
+use rip_table::Table;
 use std::alloc::{AllocError, Global};
 use std::process::Abort;
 
@@ -38,7 +38,7 @@ fn expect(rt: &impl Abort, alloc: Global, (plan, log): (&Plan, &str), verdict: &
 type Row = (usize, usize, u32, Way, bool);
 
 /// Expects a route at a place that holds.
-fn expect_route<T: MetricTable>(rt: &impl Abort, plan: &Plan, table: &T, row: Row)
+fn expect_route<T: Table>(rt: &impl Abort, plan: &Plan, table: &T, row: Row)
     requires { Fits plan.now (T.state table.now) }
 {
     let (router, prefix, number, way, hidden) = row;
@@ -87,7 +87,7 @@ fn phantom_place(rt: &impl Abort, router: usize) -> Place2 {
 }
 
 /// Expects the next place after one that does not hold.
-fn expect_next<T: MetricTable>(
+fn expect_next<T: Table>(
     rt: &impl Abort,
     plan: &Plan,
     table: &T,
@@ -101,7 +101,7 @@ fn expect_next<T: MetricTable>(
 }
 
 /// Expects of all places that are found the first, and none where the settled log has one.
-fn expect_found<T: MetricTable>(rt: &impl Abort, alloc: Global, plan: &Plan, table: &T)
+fn expect_found<T: Table>(rt: &impl Abort, alloc: Global, plan: &Plan, table: &T)
     requires { Fits plan.now (T.state table.now) }
 {
     let Ok(unsettled) = Unsettled::find(alloc, plan, table) else {
@@ -145,7 +145,7 @@ fn what_is_unclear(rt: HostRuntime) {
 type Offered = (usize, usize, usize, u32);
 
 /// Expects what is offered.
-fn expect_offer<T: MetricTable>(rt: &impl Abort, plan: &Plan, table: &T, offered: Offered)
+fn expect_offer<T: Table>(rt: &impl Abort, plan: &Plan, table: &T, offered: Offered)
     requires { Fits plan.now (T.state table.now) }
 {
     plan.lawful();

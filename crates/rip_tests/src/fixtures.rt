@@ -5,7 +5,7 @@ ghost use Rattle.rip_table.specs.State.{Fits};
 
 use rip_log::{FromRead, LogReader};
 use rip_plan::Plan;
-use rip_table::{CollectCause, GridTable, ListTable, MetricTable, TableError, collect};
+use rip_table::{CollectCause, GridTable, ListTable, MetricTable, Table, TableError, collect};
 use rip_wire::Metric;
 use std::alloc::{AllocError, Global};
 use std::hash::{BuildHasherDefault, FoldHasher};
@@ -37,7 +37,7 @@ pub(crate) fn joined(alloc: Global, front: &str, back: &str) -> Result<String, A
 /// A grid in which nothing was heard, where there is memory for it.
 pub(crate) fn new_grid(alloc: Global, plan: &Plan) -> Result<Grid, TableError>
     ensures { IfOk result (λ table.
-        Fits plan.now (⟦<GridTable<BuildHasherDefault<FoldHasher>> as MetricTable>⟧.state table)) }
+        Fits plan.now (⟦<GridTable<BuildHasherDefault<FoldHasher>> as Table>⟧.state table)) }
 {
     GridTable::with_hasher(alloc, plan, BuildHasherDefault::<FoldHasher>::new())
 }
@@ -45,7 +45,7 @@ pub(crate) fn new_grid(alloc: Global, plan: &Plan) -> Result<Grid, TableError>
 /// A grid in which nothing was heard.
 pub(crate) fn empty_grid(rt: &impl Abort, alloc: Global, plan: &Plan) -> Grid
     ensures { Fits plan.now
-        (⟦<GridTable<BuildHasherDefault<FoldHasher>> as MetricTable>⟧.state result) }
+        (⟦<GridTable<BuildHasherDefault<FoldHasher>> as Table>⟧.state result) }
 {
     match new_grid(alloc, plan) {
         Ok(table) => table,
@@ -55,7 +55,7 @@ pub(crate) fn empty_grid(rt: &impl Abort, alloc: Global, plan: &Plan) -> Grid
 
 /// A plain table in which nothing was heard.
 pub(crate) fn empty_list(rt: &impl Abort, alloc: Global, plan: &Plan) -> ListTable
-    ensures { Fits plan.now (⟦<ListTable as MetricTable>⟧.state result) }
+    ensures { Fits plan.now (⟦<ListTable as Table>⟧.state result) }
 {
     match ListTable::new(alloc, plan) {
         Ok(table) => table,
@@ -94,7 +94,7 @@ fn join<T: MetricTable>(rt: &impl Abort, alloc: Global, plan: &Plan, table: &mut
 
 /// The plain table of a log.
 pub(crate) fn list_of(rt: &impl Abort, alloc: Global, plan: &Plan, log: &str) -> ListTable
-    ensures { Fits plan.now (⟦<ListTable as MetricTable>⟧.state result) }
+    ensures { Fits plan.now (⟦<ListTable as Table>⟧.state result) }
 {
     let mut table = empty_list(rt, alloc, plan);
     join(rt, alloc, plan, &mut table, log);
@@ -104,7 +104,7 @@ pub(crate) fn list_of(rt: &impl Abort, alloc: Global, plan: &Plan, log: &str) ->
 /// The grid of a log.
 pub(crate) fn grid_of(rt: &impl Abort, alloc: Global, plan: &Plan, log: &str) -> Grid
     ensures { Fits plan.now
-        (⟦<GridTable<BuildHasherDefault<FoldHasher>> as MetricTable>⟧.state result) }
+        (⟦<GridTable<BuildHasherDefault<FoldHasher>> as Table>⟧.state result) }
 {
     let mut table = empty_grid(rt, alloc, plan);
     join(rt, alloc, plan, &mut table, log);

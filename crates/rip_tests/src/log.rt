@@ -15,6 +15,7 @@ mod lines;
 mod pulls;
 mod sinks;
 mod sources;
+mod timed;
 mod times;
 
 /// How many bytes come in one pull.

@@ -5,7 +5,7 @@ ghost use Rattle.rip_table.specs.State.{Fits};
 
 use crate::fixtures::metric;
 use rip_plan::Plan;
-use rip_table::{MetricTable, TableError};
+use rip_table::{MetricTable, Table, TableError};
 use rip_wire::{Address, Entry, MOST_ENTRIES, Prefix, read, write_response};
 use std::process::Abort;
 
@@ -82,7 +82,7 @@ fn take<T: MetricTable>(
 }
 
 /// The metric, if any, that an interface showed for the prefix of a number.
-pub(crate) fn shown<T: MetricTable>(table: &T, interface: usize, k: usize) -> Option<u32> {
+pub(crate) fn shown<T: Table>(table: &T, interface: usize, k: usize) -> Option<u32> {
     if interface < table.interface_count() && k < table.prefix_count() {
         table.metric(interface, k).map(|metric| metric.get())
     } else {
@@ -91,7 +91,7 @@ pub(crate) fn shown<T: MetricTable>(table: &T, interface: usize, k: usize) -> Op
 }
 
 /// Whether two tables show one thing at an interface.
-fn agree_at<T: MetricTable, U: MetricTable>(one: &T, other: &U, interface: usize) -> bool {
+fn agree_at<T: Table, U: Table>(one: &T, other: &U, interface: usize) -> bool {
     for k in 0..one.prefix_count() {
         if shown(one, interface, k) != shown(other, interface, k) {
             return false;
@@ -103,7 +103,7 @@ fn agree_at<T: MetricTable, U: MetricTable>(one: &T, other: &U, interface: usize
 }
 
 /// Whether two tables have one list of prefixes.
-fn list_alike<T: MetricTable, U: MetricTable>(one: &T, other: &U) -> bool {
+fn list_alike<T: Table, U: Table>(one: &T, other: &U) -> bool {
     for k in 0..one.prefix_count() {
         if k >= other.prefix_count() || one.prefix(k) != other.prefix(k) {
             return false;
@@ -113,7 +113,7 @@ fn list_alike<T: MetricTable, U: MetricTable>(one: &T, other: &U) -> bool {
 }
 
 /// Whether two tables mean the same: the list of prefixes, what is shown, and who was heard.
-fn agree<T: MetricTable, U: MetricTable>(one: &T, other: &U) -> bool {
+fn agree<T: Table, U: Table>(one: &T, other: &U) -> bool {
     for interface in 0..one.interface_count() {
         if !agree_at(one, other, interface) {
             return false;
@@ -123,6 +123,6 @@ fn agree<T: MetricTable, U: MetricTable>(one: &T, other: &U) -> bool {
 }
 
 /// The mark of an interface.
-fn is_heard<T: MetricTable>(table: &T, interface: usize) -> bool {
+fn is_heard<T: Table>(table: &T, interface: usize) -> bool {
     interface < table.interface_count() && table.heard(interface)
 }

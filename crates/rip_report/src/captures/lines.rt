@@ -1,8 +1,7 @@
 //! The lines of a log of capture files.
 
-ghost use Rattle.std.specs.Prelude.{◌≡◌, ◌+◌, ◌*◌, ◌≤◌, ◌++◌, Option, codes, length, take};
+ghost use Rattle.std.specs.Prelude.{◌≡◌, ◌+◌, ◌≤◌, ◌++◌, Option, codes, length, take};
 ghost use Rattle.hex.specs.Hex.{encode_lower};
-ghost use Rattle.rip_capture.specs.Carries.{LiesWithin};
 ghost use Rattle.rip_capture.specs.Passwords.{has_password, without_password};
 ghost use Rattle.rip_log.specs.Spans.{IsWithin, slice_of};
 ghost use Rattle.rip_capture.specs.declared.limits.TheConstants.{MOST_PAYLOAD};

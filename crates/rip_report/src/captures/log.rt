@@ -8,8 +8,7 @@ use crate::status::Status;
 use rip_log::laws::log_texts;
 
 /// A log of capture files, as far as it was written: how it is written, how many files and lines it
-/// has, and its status, Unclear where a datagram is not
-/// there whole.
+/// has, and its status, Unclear where a datagram is not there whole, or is mixed in.
 #[derive(Clone, Copy, Debug)]
 pub struct CaptureLog {
     pub(super) manner: Manner,
@@ -38,7 +37,7 @@ impl CaptureLog {
         }
     }
 
-    /// Done where each datagram in the files is there whole, else Unclear.
+    /// Done where each datagram in the files is there whole and none is mixed in, else Unclear.
     pub fn status(&self) -> Status
         ensures { result ≡ status_of self.now }
     {

@@ -1,15 +1,15 @@
 //! From the packets of a capture file to the lines of a log.
 
 ghost use Rattle.std.specs.Prelude.{◌≡◌, ◌≤◌, [], None, Option, length};
-ghost use Rattle.rip_capture.specs.NextCall.{Stands, frame_of, refusal_of, source_of};
+ghost use Rattle.rip_capture.specs.NextCall.{IsReady, Stands, frame_of, refusal_of, source_of};
 ghost use Rattle.rip_capture.specs.Origins.{origin_in};
 ghost use Rattle.rip_capture.specs.Pcap.{Frame};
 ghost use Rattle.rip_capture.specs.declared.limits.TheConstants.{MOST_CAPTURED};
 ghost use Rattle.rip_log.specs.declared.limits.TheConstants.{MOST_LINES};
 ghost use Rattle.rip_report.specs.CapturePackets.{Keeps, LogsPacket, LogsPackets, ended_at, ended_by};
 ghost use Rattle.rip_report.specs.CaptureText.{HasRoom};
-ghost use Rattle.rip_report.specs.Outs.{Adds};
-ghost use Rattle.rip_report.specs.Selections.{choice_of, part_of};
+ghost use Rattle.rip_report.specs.Outs.{Adds, HasGoneOut};
+ghost use Rattle.rip_report.specs.Selections.{selection_of, part_of};
 
 use crate::captures::counts::PacketCounts;
 use crate::captures::ending::{Ending, RefusalCode};
@@ -38,12 +38,12 @@ fn log_packet<K: Sink>(
     requires lines { tally.old.lines ≤ MOST_LINES }
     requires short { length packet.now.bytes.now ≤ MOST_CAPTURED }
     ensures { (seen : Option Frame) →
-        Keeps (choice_of part.now.packets) seen (origin_in first.old) →
+        Keeps (selection_of part.now.selection) seen (origin_in first.old) →
         LogsPacket manner (part_of part.now) seen (frame_of packet.now)
         (origin_in first.new) tally.old tally.new out.old out.new result }
 {
     let carried = read_frame(packet.link_type, packet.bytes);
-    let logged = logged(&part.packets, first, packet, carried);
+    let logged = logged(&part.selection, first, packet, carried);
     let time = match line_time(packet, is_timed(manner, logged)) {
         Ok(time) => time,
         Err(code) => return Err(code),
@@ -61,9 +61,12 @@ fn log_packet<K: Sink>(
     Ok(())
 }
 
-/// Sends what was added to a log, where the next packet may keep it waiting.
+/// Sends what was added to a log, where the next packet may keep it waiting, and only there: a file
+/// goes out by whole pages.
 fn send_before_wait<R: Source, K: Sink>(reader: &CaptureReader<R>, out: &mut Out<K>)
-    ensures { Adds out.old out.new [] }
+    ensures adds { Adds out.old out.new [] }
+    ensures sent { ¬ IsReady reader.now → HasGoneOut out.new }
+    ensures kept { IsReady reader.now → out.new ≡ out.old }
 {
     if !reader.is_ready() {
         out.send();

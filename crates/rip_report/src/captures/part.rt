@@ -1,13 +1,15 @@
-//! A link, and which packets of a capture file are its own.
+//! What of a capture file is a link's.
 
-/// Which packets of a capture file are its link's.
+/// Which packets of a capture file are its link's: those of an interface, of VLANs, or of both (and
+/// one that is cut before its tags, which may be of any). All others are passed over. Where nothing
+/// is named, they are all, and those whose sender is known have to come from one place: by one
+/// interface, in the same VLANs.
 #[derive(Clone, Copy, Debug)]
-pub enum Selection<'a> {
-    /// All. Those with a line have to come from one place: by one interface, in the same VLANs.
-    OneOrigin,
-    /// Those that came by the interface of a name, where one is given, in just these VLANs,
-    /// outermost first, where there are any. All others are passed over.
-    Of(&'a [u8], &'a [u16]),
+pub struct Selection<'a> {
+    /// The name of the interface that they came by, or no bytes: then by any.
+    pub interface: &'a [u8],
+    /// Their VLANs, just these, outermost first, or none: then in any.
+    pub vlans: &'a [u16],
 }
 
 /// A link, and which packets of a capture file are its own.
@@ -15,5 +17,6 @@ pub enum Selection<'a> {
 pub struct FilePart<'a> {
     /// The name of the link.
     pub link: &'a str,
-    pub packets: Selection<'a>,
+    /// Which packets are its own.
+    pub selection: Selection<'a>,
 }

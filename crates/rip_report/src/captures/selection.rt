@@ -6,9 +6,9 @@ ghost use Rattle.rip_capture.specs.NextCall.{frame_of};
 ghost use Rattle.rip_capture.specs.Origins.{origin_in};
 ghost use Rattle.rip_capture.specs.Pcap.{Frame};
 ghost use Rattle.rip_capture.specs.declared.limits.TheConstants.{MOST_CAPTURED};
-ghost use Rattle.rip_report.specs.CapturePackets.{Keeps};
+ghost use Rattle.rip_report.specs.CapturePackets.{Keeps, KeepsFirst};
 ghost use Rattle.rip_report.specs.CaptureText.{LogLiesWithin};
-ghost use Rattle.rip_report.specs.Selections.{Belongs, IsLogged, OfInterface, OfVlans, choice_of, first_with, sender_of};
+ghost use Rattle.rip_report.specs.Selections.{Belongs, ComesFrom, IsLogged, OfInterface, OfVlans, first_with, nothing_named, selection_of, sender_of};
 
 use crate::captures::logged::Logged;
 use crate::captures::part::Selection;
@@ -44,53 +44,69 @@ fn is_of_vlans(packet: &Packet<'_>, vlans: &[u16]) -> bool
     vlans.is_empty() || are_vlans(packet.link_type, packet.bytes, vlans)
 }
 
+/// Whether nothing is named, so that all packets have to come from one place.
+fn names_nothing(selection: &Selection<'_>) -> bool
+    ensures { Decides result (selection_of selection.now ≡ nothing_named) }
+{
+    selection.interface.is_empty() && selection.vlans.is_empty()
+}
+
+/// Whether a packet comes from where the first one came, if its sender is known.
+fn comes_from(first: &mut FirstOrigin, packet: &Packet<'_>, carried: &Carried) -> bool
+    requires { length packet.now.bytes.now ≤ MOST_CAPTURED }
+    ensures { (seen : Option Frame) → KeepsFirst seen (origin_in first.old) →
+        Decides result (ComesFrom seen (frame_of packet.now) carried.now)
+        × KeepsFirst (first_with seen (frame_of packet.now) carried.now) (origin_in first.new) }
+{
+    one_origin();
+    sender_of(carried).is_none() || first.admits(packet)
+}
+
 /// Whether a packet is its link's, where it is known what comes from where the first one came whose
 /// sender is known.
 fn belongs(
-    packets: &Selection<'_>,
+    selection: &Selection<'_>,
     first: &mut FirstOrigin,
     packet: &Packet<'_>,
     carried: &Carried,
 ) -> bool
     requires { length packet.now.bytes.now ≤ MOST_CAPTURED }
-    ensures { (seen : Option Frame) → Keeps (choice_of packets.now) seen (origin_in first.old) →
-        Decides result (Belongs (choice_of packets.now) seen (frame_of packet.now) carried.now)
-        × Keeps (choice_of packets.now) (first_with seen (frame_of packet.now) carried.now)
+    ensures { (seen : Option Frame) →
+        Keeps (selection_of selection.now) seen (origin_in first.old) →
+        Decides result (Belongs (selection_of selection.now) seen (frame_of packet.now) carried.now)
+        × Keeps (selection_of selection.now) (first_with seen (frame_of packet.now) carried.now)
         (origin_in first.new) }
 {
-    one_origin();
-    match packets {
-        Selection::OneOrigin => sender_of(carried).is_none() || first.admits(packet),
-        Selection::Of(name, vlans) => {
-            is_of_interface(packet, name)
-                && (matches!(carried, Carried::Unknown) || is_of_vlans(packet, vlans))
-        }
+    if names_nothing(selection) {
+        return comes_from(first, packet, carried);
     }
+    is_of_interface(packet, selection.interface)
+        && (matches!(carried, Carried::Unknown) || is_of_vlans(packet, selection.vlans))
 }
 
 /// What a log has of a packet, behind the first one whose sender is known.
 pub(crate) fn logged(
-    packets: &Selection<'_>,
+    selection: &Selection<'_>,
     first: &mut FirstOrigin,
     packet: &Packet<'_>,
     carried: Carried,
 ) -> Logged
     requires { length packet.now.bytes.now ≤ MOST_CAPTURED }
     ensures logged { (seen : Option Frame) →
-        Keeps (choice_of packets.now) seen (origin_in first.old) →
-        IsLogged (choice_of packets.now) seen (frame_of packet.now) carried result
-        × Keeps (choice_of packets.now) (first_with seen (frame_of packet.now) carried)
+        Keeps (selection_of selection.now) seen (origin_in first.old) →
+        IsLogged (selection_of selection.now) seen (frame_of packet.now) carried result
+        × Keeps (selection_of selection.now) (first_with seen (frame_of packet.now) carried)
         (origin_in first.new) }
     ensures lies { (size : ℕ) → LiesWithin size carried → LogLiesWithin size result }
 {
-    if belongs(packets, first, packet, &carried) {
+    if belongs(selection, first, packet, &carried) {
         return Logged::As(carried);
     }
-    match packets {
-        Selection::Of(..) => Logged::As(Carried::Others),
-        Selection::OneOrigin => match sender_of(&carried) {
-            Some(sender) => Logged::Mixed(sender),
-            None => Logged::As(carried),
-        },
+    if !names_nothing(selection) {
+        return Logged::As(Carried::Others);
+    }
+    match sender_of(&carried) {
+        Some(sender) => Logged::Mixed(sender),
+        None => Logged::As(carried),
     }
 }

@@ -46,7 +46,8 @@ pub(crate) fn line_time(packet: &Packet<'_>, asked: bool) -> Result<Option<u64>,
 /// Adds a time and a blank, if there is one.
 pub(crate) fn push_time<K: Sink>(out: &mut Out<K>, micros: Option<u64>)
     requires { IfSome micros (λ n. n ≤ MOST_MICROS) }
-    ensures { (at : Option DateTime) × IsShown micros at × Adds out.old out.new (time_part at) }
+    ensures { (time : Option DateTime) × IsShown micros time
+        × Adds out.old out.new (time_part time) }
 {
     if let Some(micros) = micros {
         out.push_bytes(&write_time(micros));

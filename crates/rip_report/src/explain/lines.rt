@@ -12,7 +12,7 @@ use crate::output::Out;
 use rip_check::{Case, Place2, Route};
 use rip_log::Sink;
 use rip_plan::{Interface, Plan};
-use rip_table::MetricTable;
+use rip_table::Table;
 use rip_wire::Metric;
 
 /// Adds the metric that is shown, or `nothing`.
@@ -160,7 +160,7 @@ pub(crate) fn push_none_heard_line<K: Sink>(out: &mut Out<K>, plan: &Plan, link:
 
 /// Adds the line of a router and a prefix of the table that it cannot reach.
 #[tactic(auto, unfolding(crate::specs::ExplainText::unreachable_line))]
-pub(crate) fn push_unreachable_line<T: MetricTable, K: Sink>(
+pub(crate) fn push_unreachable_line<T: Table, K: Sink>(
     out: &mut Out<K>,
     case: &Case<'_, T>,
     router: usize,

@@ -20,16 +20,16 @@ use crate::output::Out;
 use rip_check::{Case, Expected, Place2, Unsettled};
 use rip_log::Sink;
 use rip_plan::{Interface, Plan};
-use rip_table::MetricTable;
+use rip_table::Table;
 use rip_wire::Metric;
 
 /// What the interfaces show of the prefix of a case.
 #[derive(Drop)]
-struct Shown<'a, T: MetricTable> {
+struct Shown<'a, T: Table> {
     case: &'a Case<'a, T>,
 }
 
-impl<T: MetricTable> NumberText for Shown<'_, T> {
+impl<T: Table> NumberText for Shown<'_, T> {
     ghost is_for = { λ texts i. i < length (network_of texts.case.now).interfaces };
 
     ghost is_text = { λ texts i.
@@ -45,11 +45,7 @@ impl<T: MetricTable> NumberText for Shown<'_, T> {
 }
 
 /// Adds what each interface of a router shows of the prefix.
-pub(crate) fn add_shown<T: MetricTable, K: Sink>(
-    out: &mut Out<K>,
-    case: &Case<'_, T>,
-    router: usize,
-)
+pub(crate) fn add_shown<T: Table, K: Sink>(out: &mut Out<K>, case: &Case<'_, T>, router: usize)
     requires { router < length (network_of case.now).routers }
     ensures { AddsOne out.old out.new
         (ShownLines (network_of case.now) (state_of case.now) router case.now.prefix) }
@@ -61,12 +57,12 @@ pub(crate) fn add_shown<T: MetricTable, K: Sink>(
 /// What is offered to a router over the link of its interface, by the router of another interface
 /// there.
 #[derive(Drop)]
-struct OfferTo<'a, T: MetricTable> {
+struct OfferTo<'a, T: Table> {
     case: &'a Case<'a, T>,
     own: Interface,
 }
 
-impl<T: MetricTable> NumberText for OfferTo<'_, T> {
+impl<T: Table> NumberText for OfferTo<'_, T> {
     ghost use Rattle.rip_plan.specs.Relations.{HasCost, IsInterface};
 
     ghost is_for = { λ texts j.
@@ -90,11 +86,11 @@ impl<T: MetricTable> NumberText for OfferTo<'_, T> {
 
 /// What is offered over the link of a router's interface.
 #[derive(Drop)]
-struct OffersOverLink<'a, T: MetricTable> {
+struct OffersOverLink<'a, T: Table> {
     case: &'a Case<'a, T>,
 }
 
-impl<T: MetricTable> NumberText for OffersOverLink<'_, T> {
+impl<T: Table> NumberText for OffersOverLink<'_, T> {
     ghost is_for = { λ texts i. i < length (network_of texts.case.now).interfaces };
 
     ghost is_text = { λ texts i.
@@ -110,7 +106,7 @@ impl<T: MetricTable> NumberText for OffersOverLink<'_, T> {
 }
 
 /// Adds all that is offered to a router.
-fn add_offers<T: MetricTable, K: Sink>(out: &mut Out<K>, case: &Case<'_, T>, router: usize)
+fn add_offers<T: Table, K: Sink>(out: &mut Out<K>, case: &Case<'_, T>, router: usize)
     requires { router < length (network_of case.now).routers }
     ensures { AddsOne out.old out.new
         (OfferLines (network_of case.now) (state_of case.now) router case.now.prefix) }
@@ -130,7 +126,7 @@ fn add_direct<K: Sink>(out: &mut Out<K>, plan: &Plan, router: usize, prefix: usi
 }
 
 /// Adds the line of a place that does not hold, and what the place comes from.
-pub(crate) fn add_place<T: MetricTable, K: Sink>(
+pub(crate) fn add_place<T: Table, K: Sink>(
     out: &mut Out<K>,
     plan: &Plan,
     table: &T,
@@ -166,7 +162,7 @@ impl PairText for FailingPlaces {
 
     ghost is_text = { λ _ n s. FailingText n s (PlaceLines n s) };
 
-    fn add<T: MetricTable, K: Sink>(&self, out: &mut Out<K>, case: &Case<'_, T>, router: usize) {
+    fn add<T: Table, K: Sink>(&self, out: &mut Out<K>, case: &Case<'_, T>, router: usize) {
         case.plan.lawful();
         if let Some(place) = self.places.at(case, router) {
             let least = self.expected.least(case.plan, router, case.prefix);

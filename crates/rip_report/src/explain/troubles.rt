@@ -15,16 +15,16 @@ use crate::output::Out;
 use rip_check::{Case, Unclear};
 use rip_log::Sink;
 use rip_plan::Plan;
-use rip_table::MetricTable;
+use rip_table::Table;
 
 /// Each interface of a table, where it was heard.
 #[derive(Drop)]
-struct Heard<'a, T: MetricTable> {
+struct Heard<'a, T: Table> {
     plan: &'a Plan,
     table: &'a T,
 }
 
-impl<T: MetricTable> NumberText for Heard<'_, T> {
+impl<T: Table> NumberText for Heard<'_, T> {
     ghost is_for = { λ texts i. Fits texts.plan.now (T.state texts.table.now)
         × (i < length texts.plan.now.interfaces) };
 
@@ -39,7 +39,7 @@ impl<T: MetricTable> NumberText for Heard<'_, T> {
 }
 
 /// Whether an interface on a link was heard.
-fn any_heard<T: MetricTable>(plan: &Plan, table: &T, link: usize) -> bool
+fn any_heard<T: Table>(plan: &Plan, table: &T, link: usize) -> bool
     requires fits { Fits plan.now (T.state table.now) }
     requires link { link < length plan.now.links }
     ensures { Decides result ((i r c : ℕ)
@@ -55,7 +55,7 @@ fn any_heard<T: MetricTable>(plan: &Plan, table: &T, link: usize) -> bool
 }
 
 /// Adds the interfaces on a link that were heard, or that none was.
-fn add_heard<T: MetricTable, K: Sink>(out: &mut Out<K>, plan: &Plan, table: &T, link: usize)
+fn add_heard<T: Table, K: Sink>(out: &mut Out<K>, plan: &Plan, table: &T, link: usize)
     requires fits { Fits plan.now (T.state table.now) }
     requires link { link < length plan.now.links }
     ensures { AddsOne out.old out.new (HeardLines plan.now (T.state table.now) link) }
@@ -68,7 +68,7 @@ fn add_heard<T: MetricTable, K: Sink>(out: &mut Out<K>, plan: &Plan, table: &T, 
 }
 
 /// Adds what a trouble comes from.
-fn add_under<T: MetricTable, K: Sink>(out: &mut Out<K>, plan: &Plan, table: &T, trouble: &Unclear)
+fn add_under<T: Table, K: Sink>(out: &mut Out<K>, plan: &Plan, table: &T, trouble: &Unclear)
     requires fits { Fits plan.now (T.state table.now) }
     requires trouble { IsKnownTrouble plan.now (T.state table.now) trouble.now }
     ensures { AddsOne out.old out.new (UnderTrouble plan.now (T.state table.now) trouble.now) }
@@ -85,7 +85,7 @@ fn add_under<T: MetricTable, K: Sink>(out: &mut Out<K>, plan: &Plan, table: &T, 
 }
 
 /// Adds the line of a trouble, and what it comes from.
-fn add_trouble<T: MetricTable, K: Sink>(out: &mut Out<K>, plan: &Plan, table: &T, trouble: &Unclear)
+fn add_trouble<T: Table, K: Sink>(out: &mut Out<K>, plan: &Plan, table: &T, trouble: &Unclear)
     requires fits { Fits plan.now (T.state table.now) }
     requires trouble { IsKnownTrouble plan.now (T.state table.now) trouble.now }
     ensures { AddsOne out.old out.new (TroubleLines plan.now (T.state table.now) trouble.now) }
@@ -96,12 +96,12 @@ fn add_trouble<T: MetricTable, K: Sink>(out: &mut Out<K>, plan: &Plan, table: &T
 
 /// Each interface of a table, where it was not heard.
 #[derive(Drop)]
-struct Unheard<'a, T: MetricTable> {
+struct Unheard<'a, T: Table> {
     plan: &'a Plan,
     table: &'a T,
 }
 
-impl<T: MetricTable> NumberText for Unheard<'_, T> {
+impl<T: Table> NumberText for Unheard<'_, T> {
     ghost is_for = { λ texts i. Fits texts.plan.now (T.state texts.table.now)
         × (i < length texts.plan.now.interfaces) };
 
@@ -129,7 +129,7 @@ impl PairText for Unread {
 
     ghost is_text = { λ _ n s r p. UnreadLines n s r p };
 
-    fn add<T: MetricTable, K: Sink>(&self, out: &mut Out<K>, case: &Case<'_, T>, router: usize) {
+    fn add<T: Table, K: Sink>(&self, out: &mut Out<K>, case: &Case<'_, T>, router: usize) {
         case.plan.lawful();
         if let Err(trouble) = case.route(router) {
             add_trouble(out, case.plan, case.table, &trouble);
@@ -138,7 +138,7 @@ impl PairText for Unread {
 }
 
 /// Adds all troubles of the kind of one.
-fn add_troubles<T: MetricTable, K: Sink>(out: &mut Out<K>, plan: &Plan, table: &T, first: &Unclear)
+fn add_troubles<T: Table, K: Sink>(out: &mut Out<K>, plan: &Plan, table: &T, first: &Unclear)
     requires { Fits plan.now (T.state table.now) }
     ensures { AddsOne out.old out.new (AllTroubles plan.now (T.state table.now) first.now) }
 {
@@ -156,7 +156,7 @@ fn add_troubles<T: MetricTable, K: Sink>(out: &mut Out<K>, plan: &Plan, table: &
 }
 
 /// Adds the first trouble, or all of its kind, and what they come from.
-pub(crate) fn add_unclear<T: MetricTable, K: Sink>(
+pub(crate) fn add_unclear<T: Table, K: Sink>(
     out: &mut Out<K>,
     plan: &Plan,
     table: &T,

@@ -11,7 +11,7 @@ use crate::output::Out;
 use rip_check::{Place2, Unclear, Way};
 use rip_log::Sink;
 use rip_plan::Plan;
-use rip_table::MetricTable;
+use rip_table::Table;
 use rip_wire::Metric;
 
 /// How many routers are leaves.
@@ -41,7 +41,7 @@ fn push_leaves<K: Sink>(out: &mut Out<K>, leaves: usize)
 
 /// Adds the line of a network that has settled.
 #[tactic(auto, unfolding(crate::specs::AuditText::settled_line))]
-pub(crate) fn push_settled_line<T: MetricTable, K: Sink>(out: &mut Out<K>, plan: &Plan, table: &T)
+pub(crate) fn push_settled_line<T: Table, K: Sink>(out: &mut Out<K>, plan: &Plan, table: &T)
     ensures { Adds out.old out.new (settled_line plan.now (T.state table.now)) }
 {
     out.push("settled: ");
@@ -51,7 +51,7 @@ pub(crate) fn push_settled_line<T: MetricTable, K: Sink>(out: &mut Out<K>, plan:
 }
 
 /// Adds a place, of which the numbers are given, as `router R prefix P: `.
-fn push_place<T: MetricTable, K: Sink>(
+fn push_place<T: Table, K: Sink>(
     out: &mut Out<K>,
     plan: &Plan,
     table: &T,
@@ -114,7 +114,7 @@ fn push_unsettled<K: Sink>(out: &mut Out<K>, plan: &Plan, place: &Place2)
 
 /// Adds the line of a place that does not hold.
 #[tactic(auto, unfolding(crate::specs::AuditText::unsettled_line))]
-pub(crate) fn push_unsettled_line<T: MetricTable, K: Sink>(
+pub(crate) fn push_unsettled_line<T: Table, K: Sink>(
     out: &mut Out<K>,
     plan: &Plan,
     table: &T,
@@ -143,12 +143,7 @@ fn push_interface<K: Sink>(out: &mut Out<K>, plan: &Plan, router: usize, link: u
 }
 
 /// Adds what a trouble is about: an interface, or a router and a prefix.
-fn push_subject<T: MetricTable, K: Sink>(
-    out: &mut Out<K>,
-    plan: &Plan,
-    table: &T,
-    trouble: &Unclear,
-)
+fn push_subject<T: Table, K: Sink>(out: &mut Out<K>, plan: &Plan, table: &T, trouble: &Unclear)
     requires known { IsKnownTrouble plan.now (T.state table.now) trouble.now }
     ensures { Adds out.old out.new (subject_part plan.now (T.state table.now) trouble.now) }
 {
@@ -183,7 +178,7 @@ pub(crate) fn push_reason<K: Sink>(out: &mut Out<K>, plan: &Plan, trouble: &Uncl
 
 /// Adds the line of a log that shows no tables.
 #[tactic(auto, unfolding(crate::specs::AuditText::unclear_line))]
-pub(crate) fn push_unclear_line<T: MetricTable, K: Sink>(
+pub(crate) fn push_unclear_line<T: Table, K: Sink>(
     out: &mut Out<K>,
     plan: &Plan,
     table: &T,

@@ -9,7 +9,7 @@ ghost use Rattle.rip_report.specs.AuditText.{AuditText, IsJudged};
 ghost use Rattle.rip_report.specs.CaptureLogs.{LogOf};
 ghost use Rattle.rip_report.specs.Given.{IsGiven};
 ghost use Rattle.rip_report.specs.ReportText.{IsAccepted};
-ghost use Rattle.rip_report.specs.Selections.{OneOrigin};
+ghost use Rattle.rip_report.specs.Selections.{nothing_named};
 ghost use Rattle.rip_report.specs.declared.captures.authentication.Authentication.{Authentication};
 
 use rip_log::{FromRead, IntoWrite, Sink, Source};
@@ -50,7 +50,8 @@ fn log_of<R: Source, K: Sink>(
     ensures { (bytes : List ℕ) → IsGiven R.given R.at_end file result.0 bytes →
         result.2 ≢ Err RunError.Write → (text : List ℕ)
         × LogOf (record { authentication = Authentication.AsSent; times = false })
-        (record { part = record { link = link.now; choice = OneOrigin }; bytes = bytes } ∷ [])
+        (record { part = record { link = link.now; selection = nothing_named }; bytes = bytes }
+        ∷ [])
         text result.2
         × Took (K.taken out) (K.taken result.1) text }
 {
@@ -60,7 +61,10 @@ fn log_of<R: Source, K: Sink>(
     });
     let part = FilePart {
         link,
-        packets: Selection::OneOrigin,
+        selection: Selection {
+            interface: &[][..],
+            vlans: &[][..],
+        },
     };
     run_log(alloc, &mut log, &part, file, out)
 }

@@ -48,7 +48,10 @@ fn one_origin_and_a_part(rt: HostRuntime) -> Result<(), Fail> {
     expect_log(&rt, alloc, file.as_slice(), Status::Unclear, MIXED);
     let part = FilePart {
         link: "b",
-        packets: Selection::Of(&b""[..], &[103][..]),
+        selection: Selection {
+            interface: &[][..],
+            vlans: &[103][..],
+        },
     };
     let mut log = CaptureLog::new(PLAIN);
     let out = IntoWrite::new(Vec::new(alloc));

@@ -9,10 +9,10 @@ use crate::examples::{PHANTOM, SETTLED, TRIANGLE};
 use crate::fixtures::{list_of, plan_of};
 use rip_check::{Verdict, judge};
 use rip_plan::Plan;
-use rip_table::MetricTable;
+use rip_table::Table;
 
 /// Whether the tables that a log shows are right.
-fn is_right<T: MetricTable>(plan: &Plan, table: &T) -> bool
+fn is_right<T: Table>(plan: &Plan, table: &T) -> bool
     requires { Fits plan.now (T.state table.now) }
     ensures { (result ≡ true) ↔ ShowsRightTables plan.now (told plan.now (T.state table.now)) }
 {

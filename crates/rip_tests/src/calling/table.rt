@@ -7,12 +7,12 @@ use crate::examples::{SETTLED, TRIANGLE};
 use crate::fixtures::plan_of;
 use rip_log::{FromRead, LogReader};
 use rip_plan::Plan;
-use rip_table::{ListTable, MetricTable, TableError, collect};
+use rip_table::{ListTable, Table, TableError, collect};
 use std::alloc::Global;
 
 /// The table of a log, and whether the log was taken to its end.
 fn table_of(alloc: Global, plan: &Plan, log: &[u8]) -> Result<(ListTable, bool), TableError>
-    ensures { IfOk result (λ made. Fits plan.now (⟦<ListTable as MetricTable>⟧.state made.0)) }
+    ensures { IfOk result (λ made. Fits plan.now (⟦<ListTable as Table>⟧.state made.0)) }
 {
     let mut table = ListTable::new(alloc, plan)?;
     let Ok(mut reader) = LogReader::new(alloc, FromRead::new(log)) else {

@@ -5,6 +5,7 @@ use crate::devices::Pieces;
 use crate::examples::{BLOCKS, LITTLE};
 use rip_capture::{FileInterface, FirstOrigin, LinkType, MOST_CAPTURED, Packet, Time, are_vlans};
 use std::process::Abort;
+use std::test::Fail;
 
 /// The frame of a pcap file's first packet begins at 40. With 21 bytes it lacks the second tag, which
 /// then is none.
@@ -77,6 +78,31 @@ fn interfaces_and_times_of_blocks(rt: HostRuntime) {
             _ => panic!(rt; "no packet"),
         }
     }
+}
+
+/// Behind a section: an interface with a name, and a simple packet.
+const NAMED_INTERFACE: &[u8] = b"\x01\0\0\0\x1C\0\0\0\x65\0\0\0\0\0\0\0\x02\0\x04\0eth2\x1C\0\0\0";
+
+const SIMPLE_PACKET: &[u8] = b"\x03\0\0\0\x14\0\0\0\x04\0\0\0abcd\x14\0\0\0";
+
+#[test]
+fn name_of_an_interface(rt: HostRuntime) -> Result<(), Fail> {
+    let mut file = Vec::new(rt.alloc());
+    file.extend_from_slice(&BLOCKS[..28])?;
+    file.extend_from_slice(NAMED_INTERFACE)?;
+    file.extend_from_slice(SIMPLE_PACKET)?;
+    let mut reader = reader_of(&rt, rt.alloc(), Pieces::new(file.as_slice(), 4096));
+    match reader.next() {
+        Ok(Some(packet)) => match &packet.interface {
+            FileInterface::Named(name) => {
+                assert!(rt; name.as_bytes() == b"eth2".as_slice());
+                assert!(rt; packet.interface.has_name(b"eth2"));
+            }
+            _ => panic!(rt; "another interface"),
+        },
+        _ => panic!(rt; "no packet"),
+    }
+    Ok(())
 }
 
 /// What is finer than a millionth is cut off; an offset of 2^64 - 1 is -1.

@@ -7,13 +7,13 @@ use crate::examples::{SETTLED, TRIANGLE};
 use crate::fixtures::{fill, joined, new_grid};
 use rip_check::{Expected, Verdict, judge};
 use rip_plan::Plan;
-use rip_table::{ListTable, MetricTable};
+use rip_table::{ListTable, Table};
 use std::alloc::Global;
 use std::process::Abort;
 use std::test::Fail;
 
 /// Judges two tables of the settled log, and tells whether memory was refused then.
-fn judge_both<T: MetricTable, U: MetricTable>(
+fn judge_both<T: Table, U: Table>(
     rt: &impl Abort,
     alloc: Global,
     plan: &Plan,

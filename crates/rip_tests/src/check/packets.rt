@@ -7,7 +7,7 @@ use crate::fixtures::{grid_of, plan_of};
 use crate::table::shown;
 use rip_check::{Route, Way, route};
 use rip_plan::Plan;
-use rip_table::MetricTable;
+use rip_table::Table;
 use std::alloc::Global;
 use std::fmt::Write as _;
 use std::process::Abort;
@@ -62,7 +62,7 @@ fn row_log(alloc: Global) -> Result<String, Fail> {
 }
 
 /// The neighbour on the link of a route's way that shows the metric one less.
-fn next_router<T: MetricTable>(plan: &Plan, table: &T, route: &Route) -> Option<usize> {
+fn next_router<T: Table>(plan: &Plan, table: &T, route: &Route) -> Option<usize> {
     let Way::Over(link) = route.way else {
         return None;
     };
@@ -79,7 +79,7 @@ fn next_router<T: MetricTable>(plan: &Plan, table: &T, route: &Route) -> Option<
 }
 
 /// The route of a router for the prefix of the row.
-fn route_of<T: MetricTable>(rt: &impl Abort, plan: &Plan, table: &T, router: usize) -> Route
+fn route_of<T: Table>(rt: &impl Abort, plan: &Plan, table: &T, router: usize) -> Route
     requires { Fits plan.now (T.state table.now) }
 {
     assert!(rt; router < plan.routers() && table.prefix_count() == 1);
@@ -91,7 +91,7 @@ fn route_of<T: MetricTable>(rt: &impl Abort, plan: &Plan, table: &T, router: usi
 
 /// Follows the routes from the last router of the row, and expects each router of it once, with one hop less to
 /// go, down to the one that has the prefix.
-fn follow<T: MetricTable>(rt: &impl Abort, plan: &Plan, table: &T)
+fn follow<T: Table>(rt: &impl Abort, plan: &Plan, table: &T)
     requires { Fits plan.now (T.state table.now) }
 {
     let mut router = 14;

@@ -4,7 +4,7 @@
 use super::{expect_outcome, expect_settled};
 use crate::devices::Pieces;
 use crate::examples::SETTLED;
-use rip_log::{FromRead, LogCode, LogError, LogReader};
+use rip_log::{FromRead, LogCode, LogError, LogReader, TimedReader};
 use std::test::Fail;
 
 #[test]
@@ -16,6 +16,16 @@ fn new_hands_back(rt: HostRuntime) -> Result<(), Fail> {
             line: 0,
         };
         assert!(rt; error == memory);
+        assert!(rt; source.into_reader().calls() == 0);
+        println!(rt; "handed back")?;
+    }
+    Ok(())
+}
+
+#[test]
+fn timed_reader_hands_back(rt: HostRuntime) -> Result<(), Fail> {
+    let source = FromRead::new(Pieces::new(b"", 1));
+    if let Err((_, source)) = TimedReader::new(rt.alloc(), source) {
         assert!(rt; source.into_reader().calls() == 0);
         println!(rt; "handed back")?;
     }

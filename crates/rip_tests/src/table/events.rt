@@ -6,9 +6,7 @@ use crate::examples::{BAD, TRIANGLE};
 use crate::fixtures::{empty_list, plan_of};
 use rip_log::{FromRead, LogCode, LogReader};
 use rip_plan::Plan;
-use rip_table::{
-    Counts, Event, InterfaceTally, Lines, Listener, MetricTable, Tallies, collect_all,
-};
+use rip_table::{Counts, Event, InterfaceTally, Lines, Listener, Table, Tallies, collect_all};
 use rip_wire::Address;
 use std::alloc::{AllocError, Global};
 use std::hash::{BuildHasherDefault, FoldHasher};

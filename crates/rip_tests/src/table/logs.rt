@@ -7,7 +7,7 @@ use crate::examples::{BAD, PHANTOM, SETTLED, TRIANGLE};
 use crate::fixtures::{empty_grid, empty_list, metric, plan_of};
 use rip_log::{FromRead, LogReader};
 use rip_plan::Plan;
-use rip_table::{CollectCause, CollectError, MetricTable, TableError, collect};
+use rip_table::{CollectCause, CollectError, MetricTable, Table, TableError, collect};
 use std::alloc::Global;
 use std::process::Abort;
 
@@ -38,12 +38,7 @@ fn join<T: MetricTable>(
 }
 
 /// Expects what an interface shows of the three prefixes.
-fn expect_shown<T: MetricTable>(
-    rt: &impl Abort,
-    table: &T,
-    interface: usize,
-    row: &[Option<u32>; 3],
-) {
+fn expect_shown<T: Table>(rt: &impl Abort, table: &T, interface: usize, row: &[Option<u32>; 3]) {
     for (k, metric) in row.iter().enumerate() {
         assert!(rt; shown(table, interface, k) == *metric);
     }
@@ -51,7 +46,7 @@ fn expect_shown<T: MetricTable>(
 }
 
 /// Expects what the settled log shows.
-fn expect_settled<T: MetricTable>(rt: &impl Abort, table: &T) {
+fn expect_settled<T: Table>(rt: &impl Abort, table: &T) {
     assert!(rt; table.interface_count() == 6 && table.prefix_count() == 3);
     for (interface, row) in SHOWN.iter().enumerate() {
         expect_shown(rt, table, interface, row);

@@ -1,9 +1,6 @@
-use Rattle.std.proofs.Common.{subst}
-use Rattle.rip_plan.specs.Relations.{IsLawful}
 use Rattle.rip_report.specs.ReportText.{IsAccepted}
 use Rattle.rip_report.proofs.VerdictLemmas.{headline, plain_headline}
 use Rattle.rip_report.proofs.audit.run_audit.Goals as goal
-use Rattle.rip_check.specs.Told.{told}
 
 pub returns-clause-headline : goal.returns-clause-headline
 returns-clause-headline g c =
@@ -11,13 +8,12 @@ returns-clause-headline g c =
     λ text given n s are. headline n s (IsAccepted c.args.plan.now text n s) c.run_report.result.2 (e.accepted text given n s are) (e.meaning text given n s)
 
 pub returns-clause-known : goal.returns-clause-known
-returns-clause-known g c = λ text is. returns-clause-headline g c text (c.run_report.ensures.reads.draws.to_come text is)
-
-pub returns-clause-one_set : goal.returns-clause-one_set
-returns-clause-one_set g c = λ text given n s accepted.
-    c.one_set_of_tables.ensures.tables n (told n s) (subst IsLawful accepted.network accepted.well_formed.lawful)
+returns-clause-known g c = λ text is. returns-clause-headline g c text (c.run_report.ensures.runs.reads.draws.to_come text is)
 
 pub returns-clause-plain : goal.returns-clause-plain
 returns-clause-plain g c =
     let e = c.run_report.ensures in
     λ text given n s accepted plain. plain_headline n s c.run_report.result.2 (λ r p route. c.plain_paths.ensures.routes n r p route plain) (e.meaning text given n s accepted)
+
+pub returns-clause-one_set : goal.returns-clause-one_set
+returns-clause-one_set g c = λ text given n s accepted. c.accepted_tables.ensures c.args.plan.now text n s accepted

@@ -24,7 +24,7 @@ returns-in-Ok-clause-prints g c = λ bytes is.
     let out = c.args.out in
     let text : Begins (start ++ bytes) (S.given (source_of reader)) (S.at_end (source_of reader)) =
     subst (λ (s : g.row.R.Denot). Begins (start ++ bytes) (S.given s) (S.at_end s)) c.into_source.ensures is in
-    let ends = subst (λ (s : g.row.R.Denot). EndsSo S.given S.at_end c.args.log.now.manner part.choice
+    let ends = subst (λ (s : g.row.R.Denot). EndsSo S.given S.at_end c.args.log.now.manner part.selection
     (S.given s) c.args.log.now.lines logs.carriers reader c.log_packets-ending.new.out c.log_packets-ending.result) c.in-Ok.ensures.source logs.ends in
     adds-file S.given S.at_end start bytes reader text taken broken out c.close_file-out.result.0 c.args.log.now c.close_file-out.new.log part c.log_packets-ending.new.out
     c.early_faults.ensures c.read_captures.ensures logs.carriers logs.are logs.few c.log_packets-ending.result c.close_file-out.result.1 ends
@@ -44,7 +44,7 @@ returns-in-Ok-clause-read g c = λ bytes is e.
     let out = c.args.out in
     let text : Begins (start ++ bytes) (S.given (source_of reader)) (S.at_end (source_of reader)) =
     subst (λ (s : g.row.R.Denot). Begins (start ++ bytes) (S.given s) (S.at_end s)) c.into_source.ensures is in
-    let ends = subst (λ (s : g.row.R.Denot). EndsSo S.given S.at_end c.args.log.now.manner part.choice
+    let ends = subst (λ (s : g.row.R.Denot). EndsSo S.given S.at_end c.args.log.now.manner part.selection
     (S.given s) c.args.log.now.lines logs.carriers reader c.log_packets-ending.new.out c.log_packets-ending.result) c.in-Ok.ensures.source logs.ends in
     let closes = closes-behind _ _ c.new-text.result c.log_packets-ending.new.out c.args.log.now c.close_file-out.new.log (part_of c.args.part.now).link (packet_lines c.args.log.now.manner (part_of c.args.part.now).link logs.carriers)
     c.log_packets-ending.result c.close_file-out.result.1 c.new-text.ensures.start c.new-text.ensures.text logs.adds c.close_file-out.ensures.closes in
@@ -52,7 +52,7 @@ returns-in-Ok-clause-read g c = λ bytes is e.
     (packet_lines c.args.log.now.manner link logs.carriers) c.log_packets-ending.result c.close_file-out.result.1 closes e in
     elim (logs.unread unread) [
       | inl failed ↦ inl (ap S.broken c.into_source.ensures ∙ failed)
-      | inr far ↦ inr (far-bytes S.given S.at_end start bytes reader text c.args.log.now.manner part.choice c.args.log.now.lines c.log_packets-ending.new.out logs.carriers (rw unread at ends) far)
+      | inr far ↦ inr (far-bytes S.given S.at_end start bytes reader text c.args.log.now.manner part.selection c.args.log.now.lines c.log_packets-ending.new.out logs.carriers (rw unread at ends) far)
     ]
 
 pub returns-in-Ok-clause-source : goal.returns-in-Ok-clause-source
@@ -107,7 +107,7 @@ returns-in-Ok-clause-unread g c = λ bytes gave e.
     let part = part_of c.args.part.now in
     let link = part.link in
     let out = c.args.out in
-    let ends = subst (λ (s : g.row.R.Denot). EndsSo S.given S.at_end c.args.log.now.manner part.choice
+    let ends = subst (λ (s : g.row.R.Denot). EndsSo S.given S.at_end c.args.log.now.manner part.selection
     (S.given s) c.args.log.now.lines logs.carriers reader c.log_packets-ending.new.out c.log_packets-ending.result) c.in-Ok.ensures.source logs.ends in
     let closes = closes-behind _ _ c.new-text.result c.log_packets-ending.new.out c.args.log.now c.close_file-out.new.log (part_of c.args.part.now).link (packet_lines c.args.log.now.manner (part_of c.args.part.now).link logs.carriers)
     c.log_packets-ending.result c.close_file-out.result.1 c.new-text.ensures.start c.new-text.ensures.text logs.adds c.close_file-out.ensures.closes in

@@ -11,7 +11,7 @@ pub add_unsettled-requires-clause-first : goal.add_unsettled-requires-clause-fir
 add_unsettled-requires-clause-first g c = ((c.judge.ensures.unsettled c.in-Unsettled.place).0 c.in-Unsettled.is).1
 
 pub add_unclear-requires-clause-first : goal.add_unclear-requires-clause-first
-add_unclear-requires-clause-first g c = known_trouble c.args.plan.now (g.T.MetricTable.state c.args.table.now) c.in-Unclear.trouble c.lawful.ensures ((c.judge.ensures.unclear c.in-Unclear.trouble).0 c.in-Unclear.is)
+add_unclear-requires-clause-first g c = known_trouble c.args.plan.now (g.T.Table.state c.args.table.now) c.in-Unclear.trouble c.lawful.ensures ((c.judge.ensures.unclear c.in-Unclear.trouble).0 c.in-Unclear.is)
 
 pub returns-in-Settled-clause-adds : goal.returns-in-Settled-clause-adds
 returns-in-Settled-clause-adds g c = c.add_settled.ensures c.args.all

@@ -13,7 +13,7 @@ returns-in-Ok-clause-told g c = λ text begins.
     let S = g.R.Source in
     let whole = S.given c.args.log ++ text in
     let begun = rw c.into_source.ensures at begins in
-    let s = g.T.MetricTable.state c.collect-collected.new.table in
+    let s = g.T.Table.state c.collect-collected.new.table in
     let collected = c.collect-collected.result in
     let words : LogWords = record { text = c.log_texts.ensures.text; fault = c.log_texts.ensures.fault } in
     let made = made_of words n text s collected (λ log h. subst (λ old. SaidOutcome n old log s collected) c.requires

@@ -9,6 +9,6 @@ pub loop-number-preserved : goal.loop-number-preserved
 loop-number-preserved g c = record { adds = one_more _ c.loop-number.number c.loop-number.invariant.adds c.add.ensures }
 
 pub returns : goal.returns
-returns g c =
-    let all : c.loop-number.number ≡ c.args.count = omega (arith, c.loop-number-test.false, c.loop-number.auto.number-end) in
+returns g c k is =
+    let all : c.loop-number.number ≡ k = omega (arith, is, c.loop-number-test.false, c.loop-number.auto.number-end) in
     rw all at c.loop-number.invariant.adds

@@ -12,7 +12,7 @@ use Rattle.rip_report.proofs.report.report_log.Goals as goal
 
 pub returns-in-Ok-None-clause-prints : goal.returns-in-Ok-None-clause-prints
 returns-in-Ok-None-clause-prints g c = λ text begins.
-    let s = g.T.MetricTable.state c.read_log-source.new.table in
+    let s = g.T.Table.state c.read_log-source.new.table in
     let told_of = rw (c.in-Ok-None.is, c.in-Ok-None.field-0-is) at c.read_log-source.ensures.told in
     let told = told_of text begins in
     let says = g.C.Report.is_text c.args.command.now c.args.plan.now in
@@ -21,7 +21,7 @@ returns-in-Ok-None-clause-prints g c = λ text begins.
 pub returns-in-Ok-None-clause-told : goal.returns-in-Ok-None-clause-told
 returns-in-Ok-None-clause-told g c = λ text begins.
     let n = c.args.plan.now in
-    let s = g.T.MetricTable.state c.read_log-source.new.table in
+    let s = g.T.Table.state c.read_log-source.new.table in
     let a = g.K.Sink.taken c.args.out in
     let b = g.K.Sink.taken c.write_report-out.result.0 in
     let told_of = rw (c.in-Ok-None.is, c.in-Ok-None.field-0-is) at c.read_log-source.ensures.told in
@@ -32,7 +32,7 @@ returns-in-Ok-None-clause-told g c = λ text begins.
 pub returns-in-Ok-None-clause-meaning : goal.returns-in-Ok-None-clause-meaning
 returns-in-Ok-None-clause-meaning g c = λ text begins.
     let n = c.args.plan.now in
-    let s = g.T.MetricTable.state c.read_log-source.new.table in
+    let s = g.T.Table.state c.read_log-source.new.table in
     let told_of = rw (c.in-Ok-None.is, c.in-Ok-None.field-0-is) at c.read_log-source.ensures.told in
     let told = told_of text begins in
     λ t table. subst (λ (u : State). IfOk c.write_report-out.result.1 (g.C.Report.means c.args.command.now n u))
@@ -42,7 +42,7 @@ pub returns-in-Ok-Some-clause-prints : goal.returns-in-Ok-Some-clause-prints
 returns-in-Ok-Some-clause-prints g c = λ text begins.
     let n = c.args.plan.now in
     let e = c.in-Ok-Some.error in
-    let s = g.T.MetricTable.state c.read_log-source.new.table in
+    let s = g.T.Table.state c.read_log-source.new.table in
     let told_of = rw (c.in-Ok-Some.is, c.in-Ok-Some.field-0-is) at c.read_log-source.ensures.told in
     let told = told_of text begins in
     prints_also (λ w. w ≡ refused_log e) (ReportOf (g.C.Report.is_text c.args.command.now n) n text) g.K.Sink.taken g.K.Sink.broken c.args.out c.refuse_log-out.result.0 c.refuse_log-out.result.1
@@ -53,14 +53,14 @@ returns-in-Ok-Some-clause-told g c = λ text begins.
     let told_of = rw (c.in-Ok-Some.is, c.in-Ok-Some.field-0-is) at c.read_log-source.ensures.told in
     let told = told_of text begins in
     λ t table. no_table _ (record { text = c.log_texts.ensures.text; fault = c.log_texts.ensures.fault }) c.one_join.ensures c.args.plan.now text
-    (g.T.MetricTable.state c.read_log-source.new.table) t c.in-Ok-Some.error told table
+    (g.T.Table.state c.read_log-source.new.table) t c.in-Ok-Some.error told table
 
 pub returns-in-Ok-Some-clause-meaning : goal.returns-in-Ok-Some-clause-meaning
 returns-in-Ok-Some-clause-meaning g c = λ text begins.
     let told_of = rw (c.in-Ok-Some.is, c.in-Ok-Some.field-0-is) at c.read_log-source.ensures.told in
     let told = told_of text begins in
     λ t table. no_table _ (record { text = c.log_texts.ensures.text; fault = c.log_texts.ensures.fault }) c.one_join.ensures c.args.plan.now text
-    (g.T.MetricTable.state c.read_log-source.new.table) t c.in-Ok-Some.error told table
+    (g.T.Table.state c.read_log-source.new.table) t c.in-Ok-Some.error told table
 
 pub returns-in-Ok-None-clause-reads : goal.returns-in-Ok-None-clause-reads
 returns-in-Ok-None-clause-reads g c =
@@ -98,7 +98,7 @@ returns-in-Ok-None-clause-stops g c = λ text begins t e made.
     let told_of = rw (c.in-Ok-None.is, c.in-Ok-None.field-0-is) at c.read_log-source.ensures.told in
     let laws = c.new_states.ensures n c.lawful.ensures in
     never_refused _ e (one_refusal (record { text = c.log_texts.ensures.text; fault = c.log_texts.ensures.fault }) c.refused_logs.ensures.outcome n text
-    (g.T.MetricTable.state c.read_log-source.new.table) t None (Some e) c.lawful.ensures laws.0 laws.1 (told_of text begins) made)
+    (g.T.Table.state c.read_log-source.new.table) t None (Some e) c.lawful.ensures laws.0 laws.1 (told_of text begins) made)
 
 pub returns-in-Ok-Some-clause-stops : goal.returns-in-Ok-Some-clause-stops
 returns-in-Ok-Some-clause-stops g c = λ text begins t e made.
@@ -107,4 +107,4 @@ returns-in-Ok-Some-clause-stops g c = λ text begins t e made.
     let stops = rw (c.in-Ok-Some.is, c.in-Ok-Some.field-0-is) at c.read_log-source.ensures.stops in
     let laws = c.new_states.ensures n c.lawful.ensures in
     stops_there g.R.Source.given c.args.log c.read_log-source.result.0 c.in-Ok-Some.error e c.refuse_log-out.result.1 (one_refusal (record { text = c.log_texts.ensures.text; fault = c.log_texts.ensures.fault })
-    c.refused_logs.ensures.outcome n text (g.T.MetricTable.state c.read_log-source.new.table) t (Some c.in-Ok-Some.error) (Some e) c.lawful.ensures laws.0 laws.1 (told_of text begins) made) stops
+    c.refused_logs.ensures.outcome n text (g.T.Table.state c.read_log-source.new.table) t (Some c.in-Ok-Some.error) (Some e) c.lawful.ensures laws.0 laws.1 (told_of text begins) made) stops

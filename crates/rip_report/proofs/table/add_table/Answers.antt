@@ -11,7 +11,7 @@ use Rattle.rip_report.proofs.table.add_table.Goals as goal
 pub returns : goal.returns
 returns g c =
     let n = c.args.plan.now in
-    let s = g.T.MetricTable.state c.args.table.now in
+    let s = g.T.Table.state c.args.table.now in
     let first = table_line (length n.interfaces) (length s.prefixes) in
     let lines = flat_map (interface_lines n s) (enumerate_from 0 n.interfaces) in
     let anyway : AnywayTable n s c.args.left_out (record { text = (first ++ left_out_line c.args.left_out) ++ lines; status = c.anyway_status.result }) = record { rest = lines; status = Done; is_text = refl; text = refl; answers = c.anyway_status.ensures } in

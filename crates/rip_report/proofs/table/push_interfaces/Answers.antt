@@ -15,7 +15,7 @@ pub loop-i-preserved : goal.loop-i-preserved
 loop-i-preserved g c =
     let n = c.args.plan.now in
     let i = c.loop-i.i in
-    let lines = interface_lines n (g.T.MetricTable.state c.args.table.now) in
+    let lines = interface_lines n (g.T.Table.state c.args.table.now) in
     let item = enumerated n.interfaces 0 i i c.interface.result (omega arith) c.interface.ensures.exact in
     record { adds = adds_item lines _ _ _ (enumerate_from 0 n.interfaces) i (i, c.interface.result) item c.loop-i.invariant.adds c.push_interface_lines.ensures }
 
@@ -24,4 +24,4 @@ returns g c =
     let n = c.args.plan.now in
     let items : length n.interfaces ≤ c.loop-i.i = let all = c.interfaces-i-end.ensures in omega (arith, c.loop-i-test.false) in
     let count : length (enumerate_from 0 n.interfaces) ≤ c.loop-i.i = rw (length-enumerate_from 0 n.interfaces) items in
-    adds_all (interface_lines n (g.T.MetricTable.state c.args.table.now)) _ _ (enumerate_from 0 n.interfaces) c.loop-i.i count c.loop-i.invariant.adds
+    adds_all (interface_lines n (g.T.Table.state c.args.table.now)) _ _ (enumerate_from 0 n.interfaces) c.loop-i.i count c.loop-i.invariant.adds

@@ -6,5 +6,5 @@ use Rattle.rip_report.proofs.table.push_interfaces.Given as goal
 
 abbrev pub invariant-loop-i : goal.invariant-loop-i
 invariant-loop-i g l = record {
-  adds : Adds l.fn.out l.out (flat_map (interface_lines l.plan (g.T.MetricTable.state l.table)) (take l.i (enumerate_from 0 l.plan.interfaces)));
+  adds : Adds l.fn.out l.out (flat_map (interface_lines l.plan (g.T.Table.state l.table)) (take l.i (enumerate_from 0 l.plan.interfaces)));
 }

@@ -10,7 +10,7 @@ use Rattle.rip_report.proofs.table.push_shown_lines.Goals as goal
 pub loop-k-preserved : goal.loop-k-preserved
 loop-k-preserved g c =
     let n = c.args.plan.now in
-    let s = g.T.MetricTable.state c.args.table.now in
+    let s = g.T.Table.state c.args.table.now in
     let i = c.args.interface in
     let k = c.loop-k.k in
     let within : k < length s.prefixes = omega (arith, c.loop-k-test.true, c.prefix_count-k-end.ensures) in
@@ -22,6 +22,6 @@ loop-k-preserved g c =
 
 pub returns : goal.returns
 returns g c =
-    let s = g.T.MetricTable.state c.args.table.now in
+    let s = g.T.Table.state c.args.table.now in
     let count : length s.prefixes ≤ c.loop-k.k = let all = c.prefix_count-k-end.ensures in omega (arith, c.loop-k-test.false) in
     adds_all (λ (q : Block). prefix_lines c.args.plan.now c.args.interface q (s.shows c.args.number q)) _ _ s.prefixes c.loop-k.k count c.loop-k.invariant.adds

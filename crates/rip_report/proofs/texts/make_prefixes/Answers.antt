@@ -8,8 +8,8 @@ use Rattle.rip_report.proofs.texts.make_prefixes.Goals as goal
 pub loop-k-preserved : goal.loop-k-preserved
 loop-k-preserved g c =
     let inv = c.loop-k.invariant in
-    let ps = (g.T.MetricTable.state c.args.table.now).prefixes in
-    let few = (g.T.MetricTable.is_state c.args.table.now).few in
+    let ps = (g.T.Table.state c.args.table.now).prefixes in
+    let few = (g.T.Table.is_state c.args.table.now).few in
     let within : c.loop-k.k < length c.loop-k.texts = omega (arith, inv.size, few, c.loop-k-test.true, c.prefix_count-k-end.ensures) in
     record {
       size = rw length-set inv.size;
@@ -23,5 +23,5 @@ loop-k-preserved g c =
 
 pub returns : goal.returns
 returns g c k p at =
-    let within = slice_get_within (g.T.MetricTable.state c.args.table.now).prefixes k p at in
+    let within = slice_get_within (g.T.Table.state c.args.table.now).prefixes k p at in
     c.loop-k.invariant.made k p (omega (arith, within, c.loop-k-test.false, c.prefix_count-k-end.ensures)) at

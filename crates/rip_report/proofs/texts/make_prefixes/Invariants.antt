@@ -7,5 +7,5 @@ use Rattle.rip_report.proofs.texts.make_prefixes.Given as goal
 abbrev pub invariant-loop-k : goal.invariant-loop-k
 invariant-loop-k g l = record {
   size : length l.texts ≡ 2048;
-  made : (j : ℕ) (p : Block) → j < l.k → slice_get (g.T.MetricTable.state l.table).prefixes j ≡ Some p → IsText l.texts j (prefix_text p ++ codes " ");
+  made : (j : ℕ) (p : Block) → j < l.k → slice_get (g.T.Table.state l.table).prefixes j ≡ Some p → IsText l.texts j (prefix_text p ++ codes " ");
 }

@@ -7,7 +7,7 @@ use Rattle.rip_report.proofs.audit.UnsettledPairText.add.Goals as goal
 pub push_unsettled_line-requires : goal.push_unsettled_line-requires
 push_unsettled_line-requires g c =
     let h = c.in-Some.ensures.some in
-    failing_place c.args.case.now.plan.now (g.T.MetricTable.state c.args.case.now.table.now) c.args.router c.args.case.now.prefix c.in-Some.place c.lawful.ensures c.requires.router c.args.case.now.within h.0 h.1 h.2
+    failing_place c.args.case.now.plan.now (g.T.Table.state c.args.case.now.table.now) c.args.router c.args.case.now.prefix c.in-Some.place c.lawful.ensures c.requires.router c.args.case.now.within h.0 h.1 h.2
 
 pub returns-in-Some : goal.returns-in-Some
 returns-in-Some g c =

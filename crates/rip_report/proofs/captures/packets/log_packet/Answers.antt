@@ -23,7 +23,7 @@ lacks how link c asked (Capture code) tally out e found = absurd found
 pub returns-in-Err : goal.returns-in-Err
 returns-in-Err g c = λ seen keeps.
     let both = c.logged-logged.ensures.logged seen keeps in
-    let carrier : Carrier = record { frame = frame_of c.args.packet.now; carried = c.read_frame-carried.result; logged = c.logged-logged.result; at = None } in
+    let carrier : Carrier = record { frame = frame_of c.args.packet.now; carried = c.read_frame-carried.result; logged = c.logged-logged.result; time = None } in
     record {
       carrier = carrier;
       frame_is = refl;
@@ -37,7 +37,7 @@ pub returns-then-tally-ge-MOST_LINES : goal.returns-then-tally-ge-MOST_LINES
 returns-then-tally-ge-MOST_LINES g c = λ seen keeps.
     let both = c.logged-logged.ensures.logged seen keeps in
     record {
-      carrier = record { frame = frame_of c.args.packet.now; carried = c.read_frame-carried.result; logged = c.logged-logged.result; at = None };
+      carrier = record { frame = frame_of c.args.packet.now; carried = c.read_frame-carried.result; logged = c.logged-logged.result; time = None };
       frame_is = refl;
       carries = c.read_frame-carried.ensures.carries;
       logged = both.0;
@@ -60,11 +60,11 @@ returns g c = λ seen keeps.
     let both = c.logged-logged.ensures.logged seen keeps in
     let logged = c.logged-logged.result in
     let omitted = c.push_line-omitted.result in
-    let (at, shown, adds) = c.push_time.ensures in
-    let timed = timed-so c.is_timed.result (frame_of c.args.packet.now) c.in-Ok.time at c.in-Ok.ensures shown in
+    let (time, shown, adds) = c.push_time.ensures in
+    let timed = timed-so c.is_timed.result (frame_of c.args.packet.now) c.in-Ok.time time c.in-Ok.ensures shown in
     let old = c.args.tally.now in
     record {
-      carrier = record { frame = frame_of c.args.packet.now; carried = c.read_frame-carried.result; logged = logged; at = at };
+      carrier = record { frame = frame_of c.args.packet.now; carried = c.read_frame-carried.result; logged = logged; time = time };
       frame_is = refl;
       carries = c.read_frame-carried.ensures.carries;
       logged = both.0;
@@ -77,7 +77,7 @@ returns g c = λ seen keeps.
               counts = c.add.ensures ∙ ap (λ (t : Tally). counted t.counts logged omitted) w.tally-is ∙ ap (counted old.counts logged) c.push_line-omitted.ensures.omitted;
               lines = omega (arith, lines, line);
               few = omega (arith, lines, w.if-tally-ge-MOST_LINES.false);
-              timed = subst (λ (b : Bool). IsTimed b (frame_of c.args.packet.now) at) c.is_timed.ensures timed;
+              timed = subst (λ (b : Bool). IsTimed b (frame_of c.args.packet.now) time) c.is_timed.ensures timed;
               micros = c.in-Ok.time;
               shown = shown;
               span = c.noted_span-tally.ensures ∙ ap (λ (t : Tally). noted_span t.span c.in-Ok.time) w.tally-is;
@@ -90,7 +90,7 @@ returns g c = λ seen keeps.
               counts = c.add.ensures ∙ ap (λ (t : Tally). counted t.counts logged omitted) w.tally-is ∙ ap (counted old.counts logged) c.push_line-omitted.ensures.omitted;
               lines = omega (arith, lines, line);
               few = omega (arith, lines, c.requires.lines);
-              timed = subst (λ (b : Bool). IsTimed b (frame_of c.args.packet.now) at) c.is_timed.ensures timed;
+              timed = subst (λ (b : Bool). IsTimed b (frame_of c.args.packet.now) time) c.is_timed.ensures timed;
               micros = c.in-Ok.time;
               shown = shown;
               span = c.noted_span-tally.ensures ∙ ap (λ (t : Tally). noted_span t.span c.in-Ok.time) w.tally-is;

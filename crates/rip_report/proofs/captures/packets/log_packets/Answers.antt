@@ -16,20 +16,20 @@ use Rattle.rip_capture.specs.declared.reader.CaptureReader.{CaptureReader}
 use Rattle.rip_report.proofs.LineTimeLemmas.{shown-with, span-snoc}
 use Rattle.rip_capture.specs.Origins.{origin_in}
 use Rattle.rip_report.specs.CaptureText.{counted, line_count, omitted_of, packet_lines}
-use Rattle.rip_report.specs.Selections.{Carrier, Choice, IsCarrier, IsLogged, choice_of, first_behind}
+use Rattle.rip_report.specs.Selections.{Carrier, IsCarrier, IsLogged, Selection, first_behind, selection_of}
 use Rattle.rip_report.specs.Outs.{Adds, IsOnItsWay, Progress}
 use Rattle.rip_report.proofs.CaptureLemmas.{adds-packet, all-last, carriers-snoc, counts-snoc, first-snoc, keeps-none, ends-at, ends-by, far, stops-far, frames-snoc, has-room, line_count-snoc, never-unread, read-is_unread, unread-is_read}
 use Rattle.rip_report.proofs.OutLemmas.{adds_none, adds_same, adds_then, way_after}
 use Rattle.rip_report.proofs.captures.packets.log_packets.Goals as goal
 
 -- what a packet that was not logged leaves
-not-logged : {R : Type 0} (given : R → List ℕ) (at_end : R → Bool) (how : Manner) (choice : Choice) (link before : List ℕ) (lines : ℕ) (cs : List Carrier) (p : Carrier) (code : RefusalCode) (at : ℕ) (old new : Tally)
-    (out after : Progress) (reader : CaptureReader R) → LogsSo how link p old new out after (Err code) → IsCarrier p → IsLogged choice (first_behind None cs) p.frame p.carried p.logged
-    → TakesPacket given before (map (λ c. c.frame) cs) p.frame at reader → old.lines ≡ lines + line_count cs → (after ≡ out) × EndsSo given at_end how choice before lines cs reader after (Refused code at)
-not-logged given at_end how choice link before lines cs p TooManyLines at old new out after reader (nothing, lacks) is logged takes count =
+not-logged : {R : Type 0} (given : R → List ℕ) (at_end : R → Bool) (how : Manner) (selection : Selection) (link before : List ℕ) (lines : ℕ) (cs : List Carrier) (p : Carrier) (code : RefusalCode) (at : ℕ) (old new : Tally)
+    (out after : Progress) (reader : CaptureReader R) → LogsSo how link p old new out after (Err code) → IsCarrier p → IsLogged selection (first_behind None cs) p.frame p.carried p.logged
+    → TakesPacket given before (map (λ c. c.frame) cs) p.frame at reader → old.lines ≡ lines + line_count cs → (after ≡ out) × EndsSo given at_end how selection before lines cs reader after (Refused code at)
+not-logged given at_end how selection link before lines cs p TooManyLines at old new out after reader (nothing, lacks) is logged takes count =
     (nothing.text, (omega (arith, count, lacks.many), inl (p, is, logged, takes, lacks.line, lacks.time)))
-not-logged given at_end how choice link before lines cs p Time at old new out after reader (nothing, lacks) is logged takes count = (nothing.text, (p, is, logged, takes, lacks))
-not-logged given at_end how choice link before lines cs p (Capture code) at old new out after reader logs is logged takes count = absurd logs
+not-logged given at_end how selection link before lines cs p Time at old new out after reader (nothing, lacks) is logged takes count = (nothing.text, (p, is, logged, takes, lacks))
+not-logged given at_end how selection link before lines cs p (Capture code) at old new out after reader logs is logged takes count = absurd logs
 
 -- what was sent is the same text
 adds-so : {a b d : Progress} (text : List ℕ) → Adds a b text → Adds b d [] → Adds a d text
@@ -42,7 +42,7 @@ packets-init g c =
       carriers = [];
       are = record { carry = tt; logged = tt; timed = tt };
       span = refl;
-      keeps = keeps-none (choice_of c.args.part.now.packets) c.args.first.now c.requires.first;
+      keeps = keeps-none (selection_of c.args.part.now.selection) c.args.first.now c.requires.first;
       taken = [];
       stands = c.requires.front;
       counts = c.new.ensures c.args.manner;
@@ -86,13 +86,13 @@ packets-preserved g c =
     subst (λ (f : Frame). TakesPacket S.given before (map (λ c. c.frame) inv.carriers) f (place_of packet) now) (sym did.frame_is) (runs.goes before inv.taken (map (λ c. c.frame) inv.carriers) inv.stands) in
     let logs = rw c.in-Ok.is at did.logs in
     let cs = inv.carriers in
-    let are = carriers-snoc c.args.manner (choice_of c.args.part.now.packets) cs p inv.are did.carries did.logged logs.timed in
-    let adds = adds-packet c.args.manner c.args.part.now.link.now cs p (adds-so (packet_lines c.args.manner c.args.part.now.link.now inv.carriers) inv.adds c.send_before_wait.ensures) logs.adds in
+    let are = carriers-snoc c.args.manner (selection_of c.args.part.now.selection) cs p inv.are did.carries did.logged logs.timed in
+    let adds = adds-packet c.args.manner c.args.part.now.link.now cs p (adds-so (packet_lines c.args.manner c.args.part.now.link.now inv.carriers) inv.adds c.send_before_wait.ensures.adds) logs.adds in
     record {
       carriers = cs ++ p ∷ [];
       are = are;
-      span = rw (logs.span, span-snoc None cs p) (shown-with c.packets.tally.span (span_of cs) logs.micros p.at inv.span logs.shown);
-      keeps = subst (λ (o : Option Frame). Keeps (choice_of c.args.part.now.packets) o (origin_in c.log_packet.new.first)) (sym (first-snoc None cs p)) did.keeps;
+      span = rw (logs.span, span-snoc None cs p) (shown-with c.packets.tally.span (span_of cs) logs.micros p.time inv.span logs.shown);
+      keeps = subst (λ (o : Option Frame). Keeps (selection_of c.args.part.now.selection) o (origin_in c.log_packet.new.first)) (sym (first-snoc None cs p)) did.keeps;
       taken = goes.front ++ goes.bytes;
       stands = subst (λ (fs : List Frame). Stands S.given before now (goes.front ++ goes.bytes) fs) (sym (frames-snoc cs p)) goes.stands;
       counts = logs.counts ∙ ap (λ n. counted n p.logged (omitted_of c.args.manner.authentication p.frame.bytes p.logged)) inv.counts ∙ sym (counts-snoc c.args.manner cs p);
@@ -129,13 +129,13 @@ returns-in-Err-log_packet g c =
     subst (λ (f : Frame). TakesPacket S.given before (map (λ c. c.frame) inv.carriers) f (place_of packet) now) (sym did.frame_is) (runs.goes before inv.taken (map (λ c. c.frame) inv.carriers) inv.stands) in
     let logs : LogsSo c.args.manner c.args.part.now.link.now p c.packets.tally c.log_packet.new.tally c.send_before_wait.new.out c.log_packet.new.out (Err c.in-Err-log_packet.code) =
     subst (LogsSo c.args.manner c.args.part.now.link.now p c.packets.tally c.log_packet.new.tally c.send_before_wait.new.out c.log_packet.new.out) c.in-Err-log_packet.is did.logs in
-    let (same, ends) = not-logged S.given S.at_end c.args.manner (choice_of c.args.part.now.packets) c.args.part.now.link.now before c.args.lines inv.carriers p c.in-Err-log_packet.code (place_of packet)
+    let (same, ends) = not-logged S.given S.at_end c.args.manner (selection_of c.args.part.now.selection) c.args.part.now.link.now before c.args.lines inv.carriers p c.in-Err-log_packet.code (place_of packet)
     c.packets.tally c.log_packet.new.tally c.send_before_wait.new.out c.log_packet.new.out now logs did.carries did.logged goes inv.lines in
     record {
       carriers = inv.carriers;
       are = inv.are;
       few = omega (arith, inv.lines, inv.few);
-      adds = rw same (adds-so (packet_lines c.args.manner c.args.part.now.link.now inv.carriers) inv.adds c.send_before_wait.ensures);
+      adds = rw same (adds-so (packet_lines c.args.manner c.args.part.now.link.now inv.carriers) inv.adds c.send_before_wait.ensures.adds);
       ends = ends;
       went = went_on S.given S.coming S.at_end (source_of c.args.reader.now) (source_of c.packets.reader) (source_of now) inv.went runs.moves.went;
       unread = λ e. cc e;
@@ -158,12 +158,12 @@ returns-then-has_failed-2 g c =
     subst (λ (f : Frame). TakesPacket S.given before (map (λ c. c.frame) inv.carriers) f (place_of packet) now) (sym did.frame_is) (runs.goes before inv.taken (map (λ c. c.frame) inv.carriers) inv.stands) in
     let logs = rw c.in-Ok.is at did.logs in
     let cs = inv.carriers in
-    let are = carriers-snoc c.args.manner (choice_of c.args.part.now.packets) cs p inv.are did.carries did.logged logs.timed in
+    let are = carriers-snoc c.args.manner (selection_of c.args.part.now.selection) cs p inv.are did.carries did.logged logs.timed in
     record {
       carriers = cs ++ p ∷ [];
       are = are;
       few = omega (arith, logs.lines, inv.lines, line_count-snoc cs p, logs.few);
-      adds = adds-packet c.args.manner c.args.part.now.link.now cs p (adds-so (packet_lines c.args.manner c.args.part.now.link.now inv.carriers) inv.adds c.send_before_wait.ensures) logs.adds;
+      adds = adds-packet c.args.manner c.args.part.now.link.now cs p (adds-so (packet_lines c.args.manner c.args.part.now.link.now inv.carriers) inv.adds c.send_before_wait.ensures.adds) logs.adds;
       ends = (
         sym c.has_failed-in-Ok-Some.ensures.failed ∙ c.if-has_failed-2.true,
         (goes.front ++ goes.bytes, subst (λ (fs : List Frame). Stands S.given before now (goes.front ++ goes.bytes) fs) (sym (frames-snoc cs p)) goes.stands),
@@ -189,8 +189,8 @@ returns-in-Ok-None g c =
       carriers = inv.carriers;
       are = inv.are;
       few = omega (arith, inv.lines, inv.few);
-      adds = (adds-so (packet_lines c.args.manner c.args.part.now.link.now inv.carriers) inv.adds c.send_before_wait.ensures);
-      ends = ends-at S.given S.at_end c.args.manner (choice_of c.args.part.now.packets) before c.args.lines inv.carriers now c.send_before_wait.new.out tally here inv.counts inv.lines inv.few inv.span;
+      adds = (adds-so (packet_lines c.args.manner c.args.part.now.link.now inv.carriers) inv.adds c.send_before_wait.ensures.adds);
+      ends = ends-at S.given S.at_end c.args.manner (selection_of c.args.part.now.selection) before c.args.lines inv.carriers now c.send_before_wait.new.out tally here inv.counts inv.lines inv.few inv.span;
       went = went_on S.given S.coming S.at_end (source_of c.args.reader.now) (source_of c.packets.reader) (source_of now) inv.went runs.moves.went;
       unread = λ e. absurd (never-unread tally (position_of now) e);
       marks = λ e. runs.moves.marks refl ∙ inv.marks;
@@ -206,12 +206,12 @@ returns-in-Err g c =
     let runs = h.runs inv.running in
     let before = S.given (source_of c.args.reader.now) in
     let goes = runs.goes before inv.taken (map (λ c. c.frame) inv.carriers) inv.stands in
-    let ends = ends-by S.given S.at_end c.args.manner (choice_of c.args.part.now.packets) before c.args.lines inv.carriers now c.send_before_wait.new.out c.in-Err.error.code c.in-Err.error.at goes in
+    let ends = ends-by S.given S.at_end c.args.manner (selection_of c.args.part.now.selection) before c.args.lines inv.carriers now c.send_before_wait.new.out c.in-Err.error.code c.in-Err.error.at goes in
     rw c.ended_by.ensures (record {
       carriers = inv.carriers;
       are = inv.are;
       few = omega (arith, inv.lines, inv.few);
-      adds = (adds-so (packet_lines c.args.manner c.args.part.now.link.now inv.carriers) inv.adds c.send_before_wait.ensures);
+      adds = (adds-so (packet_lines c.args.manner c.args.part.now.link.now inv.carriers) inv.adds c.send_before_wait.ensures.adds);
       ends = ends;
       went = went_on S.given S.coming S.at_end (source_of c.args.reader.now) (source_of c.packets.reader) (source_of now) inv.went runs.moves.went;
       unread = λ e. runs.moves.failed (unread-is_read c.in-Err.error.code c.in-Err.error.at e);

@@ -6,7 +6,7 @@ use Rattle.rip_capture.specs.Origins.{origin_in}
 use Rattle.rip_report.specs.CapturePackets.{Keeps}
 use Rattle.rip_report.specs.LineTimes.{AreShown, span_of}
 use Rattle.rip_report.specs.CaptureText.{AreCarriers, counts_of, line_count, packet_lines}
-use Rattle.rip_report.specs.Selections.{Carrier, choice_of, first_behind}
+use Rattle.rip_report.specs.Selections.{Carrier, first_behind, selection_of}
 use Rattle.rip_report.specs.Outs.{Adds, IsOnItsWay}
 use Rattle.rip_report.proofs.captures.packets.log_packets.Given as goal
 
@@ -15,9 +15,9 @@ invariant-packets g l =
     let S = g.R.Source in
     record {
       carriers : List Carrier;
-      are : AreCarriers l.manner (choice_of l.part.packets) carriers;
+      are : AreCarriers l.manner (selection_of l.part.selection) carriers;
       span : AreShown l.tally.span (span_of carriers);
-      keeps : Keeps (choice_of l.part.packets) (first_behind None carriers) (origin_in l.first);
+      keeps : Keeps (selection_of l.part.selection) (first_behind None carriers) (origin_in l.first);
       taken : List ℕ;
       stands : Stands S.given (S.given (source_of l.fn.reader)) l.reader taken (map (λ c. c.frame) carriers);
       counts : l.tally.counts ≡ counts_of l.manner carriers;

@@ -1,4 +1,4 @@
 use Rattle.rip_report.proofs.expect.OfRoutersNumberText.add.Goals as goal
 
 pub returns : goal.returns
-returns g c = rw c.prefixes.ensures at c.add_below.ensures
+returns g c = c.add_below.ensures _ c.prefixes.ensures

@@ -10,8 +10,8 @@ returns g c =
     let shown = c.add_shown.ensures in
     let direct = c.add_direct.ensures in
     let offers = c.add_offers.ensures in
-    let shown_of : ShownLines case.plan.now (g.T.MetricTable.state case.table.now) r case.prefix shown.text = shown.is_text in
-    let offers_of : OfferLines case.plan.now (g.T.MetricTable.state case.table.now) r case.prefix offers.text = offers.is_text in
+    let shown_of : ShownLines case.plan.now (g.T.Table.state case.table.now) r case.prefix shown.text = shown.is_text in
+    let offers_of : OfferLines case.plan.now (g.T.Table.state case.table.now) r case.prefix offers.text = offers.is_text in
     adds_one (record {
       shown = shown.text;
       direct = direct.text;

@@ -1,6 +1,4 @@
-use Rattle.std.proofs.Common.{List, ℕ, subst}
-use Rattle.rip_report.specs.ExplainText.{HeardLine, none, some}
-use Rattle.rip_report.specs.Listings.{TextsOf}
+use Rattle.rip_report.specs.ExplainText.{none, some}
 use Rattle.rip_report.proofs.ExplainLemmas.{on_below}
 use Rattle.rip_report.proofs.OutLemmas.{added_also, adds_one}
 use Rattle.rip_report.proofs.explain.troubles.add_heard.Goals as goal
@@ -10,9 +8,8 @@ add_listed-requires g c = λ k at. (c.requires.fits, on_below c.args.plan.now c.
 
 pub returns-then-any_heard : goal.returns-then-any_heard
 returns-then-any_heard g c =
-    let s = g.T.MetricTable.state c.args.table.now in
     let h = c.any_heard.ensures.0 c.if-any_heard.true in
-    added_also (λ text lines. some h.0 h.1 h.2 text h.3 h.4 (subst (λ (numbers : List ℕ). TextsOf (HeardLine c.args.plan.now s) numbers text) c.on_link.ensures.value lines)) c.add_listed.ensures
+    added_also (λ text lines. some h.0 h.1 h.2 text h.3 h.4 lines) (c.add_listed.ensures _ c.on_link.ensures.value)
 
 pub returns-else-any_heard : goal.returns-else-any_heard
 returns-else-any_heard g c = adds_one (none (λ i r k is heard. cc (c.if-any_heard.false, c.any_heard.ensures.1 (i, r, k, is, heard)))) c.push_none_heard_line.ensures

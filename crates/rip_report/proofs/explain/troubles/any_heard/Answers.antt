@@ -14,7 +14,7 @@ pub returns : goal.returns
 returns g c = (
   λ t. cc t,
   λ o.
-      let s = g.T.MetricTable.state c.args.table.now in
+      let s = g.T.Table.state c.args.table.now in
       let h = on_place c.args.plan.now c.args.link c.on_link-numbers.result.now c.on_link-numbers.ensures.exact o.0 o.1 o.2 o.3 in
       let heard : IsTrue (s.heard (get_or c.on_link-numbers.result.now h.0 0)) = rw h.2 o.4 in
       absurd (c.loop-i.invariant.none h.0 (omega (arith, h.1, c.loop-i-test.false)) heard),

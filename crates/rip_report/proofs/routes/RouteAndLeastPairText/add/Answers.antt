@@ -9,7 +9,7 @@ add_found-requires-clause-read g c = record { fits = c.in-Ok.ensures.fits; one =
 
 pub push_unread_line-requires-clause-known : goal.push_unread_line-requires-clause-known
 push_unread_line-requires-clause-known g c =
-    known_reason c.args.case.now.plan.now (g.T.MetricTable.state c.args.case.now.table.now) c.args.router c.args.case.now.prefix c.in-Err.trouble c.lawful.ensures c.in-Err.ensures.unclear
+    known_reason c.args.case.now.plan.now (g.T.Table.state c.args.case.now.table.now) c.args.router c.args.case.now.prefix c.in-Err.trouble c.lawful.ensures c.in-Err.ensures.unclear
 
 pub returns-in-Err : goal.returns-in-Err
 returns-in-Err g c =

@@ -34,20 +34,20 @@ module _ (IsText : Written → Type 0) (old new : Taken) (a b : List ℕ) (befor
 pub returns-clause-text : goal.returns-clause-text
 returns-clause-text c =
     let run = c.run_audit-out in
-    let prints = run.ensures.prints c.args.log.now (run.ensures.reads.draws.to_come c.args.log.now c.new.ensures.left) in
+    let prints = run.ensures.runs.prints c.args.log.now (run.ensures.runs.reads.draws.to_come c.args.log.now c.new.ensures.left) in
     whole_text (AuditText c.args.plan.now c.args.log.now false) (taken_by contents c.new-out.result) (taken_by contents run.result.1) c.args.lines.items c.into_writer.result.items
     (ap contents c.new-out.ensures.writer) (ap contents (sym c.into_writer.ensures)) run.result.2 prints.text
 
 pub returns-clause-write : goal.returns-clause-write
 returns-clause-write c = λ failed.
     let run = c.run_audit-out in
-    let prints = run.ensures.prints c.args.log.now (run.ensures.reads.draws.to_come c.args.log.now c.new.ensures.left) in
+    let prints = run.ensures.runs.prints c.args.log.now (run.ensures.runs.reads.draws.to_come c.args.log.now c.new.ensures.left) in
     beginning (AuditText c.args.plan.now c.args.log.now false) (taken_by contents c.new-out.result) (taken_by contents run.result.1) c.args.lines.items c.into_writer.result.items
     (ap contents c.new-out.ensures.writer) (ap contents (sym c.into_writer.ensures)) (prints.write failed).1
 
 pub returns-clause-memory : goal.returns-clause-memory
 returns-clause-memory c = λ failed.
     let run = c.run_audit-out in
-    let prints = run.ensures.prints c.args.log.now (run.ensures.reads.draws.to_come c.args.log.now c.new.ensures.left) in
+    let prints = run.ensures.runs.prints c.args.log.now (run.ensures.runs.reads.draws.to_come c.args.log.now c.new.ensures.left) in
     nothing (AuditText c.args.plan.now c.args.log.now false) (taken_by contents c.new-out.result) (taken_by contents run.result.1) c.args.lines.items c.into_writer.result.items
     (ap contents c.new-out.ensures.writer) (ap contents (sym c.into_writer.ensures)) (prints.memory failed)

@@ -2,7 +2,7 @@ use Rattle.std.proofs.Common.{◌≡◌, ◌≢◌, ◌∷◌, [], ℕ, List, Re
 use Rattle.rip_report.specs.CaptureLogs.{File, FileText, LogOf, SoFar, worse}
 use Rattle.rip_report.specs.CaptureLogs.LogOf.{all, stopped}
 use Rattle.rip_report.specs.CaptureLogs.SoFar.{more, none}
-use Rattle.rip_report.specs.Selections.{OneOrigin, Part}
+use Rattle.rip_report.specs.Selections.{Part, nothing_named}
 use Rattle.rip_report.specs.declared.captures.manner.Manner.{Manner}
 use Rattle.rip_report.specs.declared.status.RunError.{RunError}
 use Rattle.rip_report.specs.declared.status.Status.{Status}
@@ -39,7 +39,7 @@ module _ (how : Manner) (lines after : ℕ) (status : Status) (so_far : SoFar ho
 pub returns : goal.returns
 returns g c = λ bytes is not.
     let log = c.new-log.result in
-    let part : Part = record { link = c.args.link.now; choice = OneOrigin } in
+    let part : Part = record { link = c.args.link.now; selection = nothing_named } in
     let (text, lines, has, took, follows) = (c.run_log.ensures.prints bytes is).text not in
     let is_log = log-of log.manner log.lines lines log.status c.new-log.ensures.empty.so_far part bytes text c.run_log.result.2 (rw c.new-log.ensures.empty.count at has) in
     (text, subst (λ (how : Manner). LogOf how (record { part = part; bytes = bytes } ∷ []) text c.run_log.result.2) c.new-log.ensures.manner is_log, took)

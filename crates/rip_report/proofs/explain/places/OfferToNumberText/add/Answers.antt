@@ -13,7 +13,7 @@ push_offer_line-requires-clause-router g c = c.lawful.ensures.router_known _ c.i
 pub returns-then-router-self : goal.returns-then-router-self
 returns-then-router-self g c =
     let n = c.args.self.now.case.now.plan.now in
-    let s = g.T.MetricTable.state c.args.self.now.case.now.table.now in
+    let s = g.T.Table.state c.args.self.now.case.now.table.now in
     let own = c.args.self.now.own in
     let j = c.args.number in
     let x = c.interface-router.result in

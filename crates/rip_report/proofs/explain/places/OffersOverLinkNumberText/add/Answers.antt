@@ -1,6 +1,4 @@
-use Rattle.std.proofs.Common.{List, ℕ, subst}
-use Rattle.rip_report.specs.ExplainText.{OfferLine, offers}
-use Rattle.rip_report.specs.Listings.{TextsOf}
+use Rattle.rip_report.specs.ExplainText.{offers}
 use Rattle.rip_report.proofs.ExplainLemmas.{on_number}
 use Rattle.rip_report.proofs.OutLemmas.{added_also}
 use Rattle.rip_report.proofs.explain.places.OffersOverLinkNumberText.add.Goals as goal
@@ -15,7 +13,4 @@ add_listed-requires g c =
 
 pub returns : goal.returns
 returns g c =
-    let s = g.T.MetricTable.state c.args.self.now.case.now.table.now in
-    let own = c.interface-own.result in
-    added_also (λ text lines. offers own text c.interface-own.ensures.exact
-    (subst (λ (numbers : List ℕ). TextsOf (OfferLine c.args.self.now.case.now.plan.now s own c.args.self.now.case.now.prefix) numbers text) c.on_link-numbers.ensures.value lines)) c.add_listed.ensures
+    added_also (λ text lines. offers c.interface-own.result text c.interface-own.ensures.exact lines) (c.add_listed.ensures _ c.on_link-numbers.ensures.value)

@@ -9,7 +9,7 @@ push_shown_line-requires g c = c.lawful.ensures.link_known _ c.interface-link.re
 
 pub returns : goal.returns
 returns g c =
-    let s = g.T.MetricTable.state c.args.self.now.case.now.table.now in
+    let s = g.T.Table.state c.args.self.now.case.now.table.now in
     let x = c.interface-link.result in
     let same = ap (shown_line c.args.self.now.case.now.plan.now x.link) (shown_metric s c.args.number c.args.self.now.case.now.prefix c.metric-shown.result c.args.self.now.case.now.within c.metric-shown.ensures) in
     adds_one (shown x c.interface-link.ensures.exact) (adds_same same c.push_shown_line.ensures)

@@ -6,7 +6,7 @@ use Rattle.rip_report.proofs.explain.troubles.UnreadPairText.add.Goals as goal
 
 pub add_trouble-requires-clause-trouble : goal.add_trouble-requires-clause-trouble
 add_trouble-requires-clause-trouble g c =
-    reason_known c.args.case.now.plan.now (g.T.MetricTable.state c.args.case.now.table.now) c.args.router c.args.case.now.prefix c.in-Err.trouble c.lawful.ensures c.requires.router c.args.case.now.within c.in-Err.ensures.unclear
+    reason_known c.args.case.now.plan.now (g.T.Table.state c.args.case.now.table.now) c.args.router c.args.case.now.prefix c.in-Err.trouble c.lawful.ensures c.requires.router c.args.case.now.within c.in-Err.ensures.unclear
 
 pub returns-in-Err : goal.returns-in-Err
 returns-in-Err g c =
