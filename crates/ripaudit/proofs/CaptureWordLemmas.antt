@@ -8,7 +8,7 @@ use Rattle.std.specs.Option.{IfSome, IsSomeAnd}
 use Rattle.rip_wire.specs.Name.{IsName}
 use Rattle.ripaudit.specs.CaptureWords.{IsFileName, below, alone, IsStem, cut, front, none, IsCaptureWord, both, file, IsFineWord, IsPartText, part_in}
 use Rattle.ripaudit.specs.Texts.{Lacks}
-use Rattle.rip_report.specs.Selections.{Choice, OneOrigin, Part}
+use Rattle.rip_report.specs.Selections.{Part, Selection, nothing_named}
 use Rattle.ripaudit.specs.declared.words.CaptureWord.{CaptureWord}
 
 -- no byte is c, read at the default 0
@@ -107,17 +107,17 @@ pub named_both : (word text b : List ℕ) (r : Option CaptureWord) → word ≡ 
 named_both word text b None e l h = tt
 named_both word text b (Some w) e l h = subst (IsCaptureWord word (part_in w)) (sym h.2) (both text e l h.0 h.3)
 
-pub named_file : (word name a : List ℕ) (r : Option CaptureWord) → Lacks 61 word → word ≢ codes "-" → IsFileName word name → IsStem name a
-    → IfSome r (λ w. (part_in w ≡ record { link = a; choice = OneOrigin }) × (w.path.now ≡ word) × IsName a × (word ≢ [])) → IfSome r (λ w. IsCaptureWord word (part_in w) w.path.now)
-named_file word name a None l d f s h = tt
-named_file word name a (Some w) l d f s h = file name a l d f s h.2 h.0 h.1
+pub named_file : (word name a : List ℕ) (selection : Selection) (r : Option CaptureWord) → selection ≡ nothing_named → Lacks 61 word → word ≢ codes "-" → IsFileName word name → IsStem name a
+    → IfSome r (λ w. (part_in w ≡ record { link = a; selection = selection }) × (w.path.now ≡ word) × IsName a × (word ≢ [])) → IfSome r (λ w. IsCaptureWord word (part_in w) w.path.now)
+named_file word name a selection None e l d f s h = tt
+named_file word name a selection (Some w) e l d f s h = file name a l d f s h.2 (h.0 ∙ ap (λ (t : Selection). record { link = a; selection = t }) e) h.1
 
--- what is found of a link and of what is chosen
-pub found_part : (a link : List ℕ) (choice : Choice) (b path : List ℕ) (part : Part) (r : Option CaptureWord) → a ≡ link → b ≡ path → part ≡ record { link = link; choice = choice } → IsName link → path ≢ []
-    → (IsName a → b ≢ [] → IsSomeAnd r (λ w. (part_in w ≡ record { link = a; choice = choice }) × (w.path.now ≡ b))) → IsSomeAnd r (λ w. (part_in w ≡ part) × (w.path.now ≡ path))
-found_part a link choice b path part r e f is named some h =
-    subst (λ (q : Part). IsSomeAnd r (λ w. (part_in w ≡ q) × (w.path.now ≡ path))) (ap (λ (l : List ℕ). record { link = l; choice = choice }) e ∙ sym is)
-    (subst (λ (y : List ℕ). IsSomeAnd r (λ w. (part_in w ≡ record { link = a; choice = choice }) × (w.path.now ≡ y))) f (h (subst IsName (sym e) named) (λ g. some (sym f ∙ g))))
+-- what is found of a link and of what is named
+pub found_part : (a link : List ℕ) (selection : Selection) (b path : List ℕ) (part : Part) (r : Option CaptureWord) → a ≡ link → b ≡ path → part ≡ record { link = link; selection = selection } → IsName link → path ≢ []
+    → (IsName a → b ≢ [] → IsSomeAnd r (λ w. (part_in w ≡ record { link = a; selection = selection }) × (w.path.now ≡ b))) → IsSomeAnd r (λ w. (part_in w ≡ part) × (w.path.now ≡ path))
+found_part a link selection b path part r e f is named some h =
+    subst (λ (q : Part). IsSomeAnd r (λ w. (part_in w ≡ q) × (w.path.now ≡ path))) (ap (λ (l : List ℕ). record { link = l; selection = selection }) e ∙ sym is)
+    (subst (λ (y : List ℕ). IsSomeAnd r (λ w. (part_in w ≡ record { link = a; selection = selection }) × (w.path.now ≡ y))) f (h (subst IsName (sym e) named) (λ g. some (sym f ∙ g))))
 
 -- what is found of the text in front of a file
 pub found_both : (a text b path : List ℕ) (part : Part) (r : Option CaptureWord) → a ≡ text → b ≡ path → IsPartText text part → path ≢ []

@@ -1,3 +1,3 @@
 pub mod CaptureWordLemmas
-pub mod WhichLemmas
+pub mod SelectionTextLemmas
 pub mod FileLemmas

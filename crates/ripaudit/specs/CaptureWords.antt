@@ -2,9 +2,9 @@
 use Rattle.std.specs.Prelude.{◌≡◌, ◌≢◌, ℕ, ◌<◌, List, [], ◌++◌, length, codes}
 use Rattle.std.specs.List.{slice_index_or}
 use Rattle.rip_wire.specs.Name.{IsName}
-use Rattle.rip_report.specs.Selections.{Choice, OneOrigin, Part}
+use Rattle.rip_report.specs.Selections.{Part, Selection, nothing_named}
 use Rattle.ripaudit.specs.Texts.{Lacks}
-use Rattle.ripaudit.specs.Whiches.{IsWhich, choice_in}
+use Rattle.ripaudit.specs.SelectionTexts.{IsSelectionText, selection_in}
 use Rattle.ripaudit.specs.declared.words.CaptureWord.{CaptureWord}
 
 -- the name of a file without its folders: what follows the last `/`, or all where there is none
@@ -24,9 +24,11 @@ pub data IsStem (name stem : List ℕ) : Type 0 where
 
 -- a text names a link, or a link and, behind `@`, which packets of a file are its own
 pub data IsPartText (text : List ℕ) (part : Part) : Type 0 where
-  link : IsName text → part ≡ record { link = text; choice = OneOrigin } → IsPartText text part
-  which : (link which : List ℕ) (choice : Choice) → text ≡ link ++ (codes "@" ++ which) →
-      IsName link → IsWhich which choice → part ≡ record { link = link; choice = choice } →
+  link : IsName text → part ≡ record { link = text; selection = nothing_named } →
+      IsPartText text part
+  which : (link which : List ℕ) (selection : Selection) → text ≡ link ++ (codes "@" ++ which) →
+      IsName link → IsSelectionText which selection →
+      part ≡ record { link = link; selection = selection } →
       IsPartText text part
 
 -- a word names a file and a part of it that is a link's: the part and the file, round its first
@@ -36,12 +38,12 @@ pub data IsCaptureWord (word : List ℕ) (part : Part) (path : List ℕ) : Type 
   both : (text : List ℕ) → word ≡ text ++ (codes "=" ++ path) → Lacks 61 text →
       IsPartText text part → path ≢ [] → IsCaptureWord word part path
   file : (name link : List ℕ) → Lacks 61 word → word ≢ codes "-" → IsFileName word name →
-      IsStem name link → IsName link → part ≡ record { link = link; choice = OneOrigin } →
+      IsStem name link → IsName link → part ≡ record { link = link; selection = nothing_named } →
       path ≡ word → IsCaptureWord word part path
 
 -- the part that a word names
 abbrev pub part_in : CaptureWord → Part
-part_in word = record { link = word.link.now; choice = choice_in word.which }
+part_in word = record { link = word.link.now; selection = selection_in word.selection }
 
 -- the word of this number names a file and its link, and standard input only where none before does
 pub record IsFineWord (words : List (List ℕ)) (at : ℕ) : Type 0 where

@@ -2,4 +2,4 @@ pub mod CaptureFiles
 pub mod CaptureWords
 pub mod CommandText
 pub mod Texts
-pub mod Whiches
+pub mod SelectionTexts

@@ -9,15 +9,14 @@ ghost use Rattle.rip_check.specs.Told.{told};
 ghost use Rattle.rip_report.specs.AuditText.{AnswersRightly, IsJudged, ShowsPlainRightTables};
 ghost use Rattle.rip_report.specs.Given.{IsGiven};
 ghost use Rattle.rip_report.specs.ReportText.{AreRead, IsAccepted};
-ghost use Rattle.rip_report.specs.Runs.{Reads, ReadsOn, RefusesPlan, StopsAtRefusal};
-ghost use Rattle.rip_report.specs.Sent.{Prints};
+ghost use Rattle.rip_report.specs.Runs.{RunsOnLog, RunsOnPlan, RunsToEnd};
 ghost use Rattle.rip_report.specs.declared.captures.authentication.Authentication.{Authentication};
 ghost use Rattle.ripaudit.specs.declared.commands.TheConstants.{PIECE_LEN};
 ghost use Rattle.ripaudit.specs.CommandText.{AnywayCommandText, LogCommandText, PlanCommandText};
 
-use rip_check::laws::one_set_of_tables;
 use rip_log::{Failed, Sink, Source};
 use rip_plan::MOST_PLAN_BYTES;
+use rip_report::laws::accepted_tables;
 use rip_report::{
     Authentication, Manner, RunError, Status, run_audit, run_expect, run_explain, run_heard,
     run_plan, run_routes, run_routes_anyway, run_table, run_table_anyway, run_whatif,
@@ -178,9 +177,7 @@ pub(crate) fn run_on_plan<K: Sink>(
     plan: &[u8],
     out: K,
 ) -> (K, Result<Status, RunError>)
-    ensures prints { Prints K.taken K.broken out result.0 result.1
-        (PlanCommandText command plan.now) }
-    ensures read { result.1 ≢ Err RunError.Read }
+    ensures runs { RunsOnPlan K.Sink (PlanCommandText command) plan.now out result }
 {
     match command {
         PlanCommand::Plan => run_plan(alloc, plan, out),
@@ -199,13 +196,8 @@ pub(crate) fn run_on_log<R: Source, K: Sink, S: BuildHasher + Drop>(
     out: K,
     hasher: S,
 ) -> (R, K, Result<Status, RunError>)
-    ensures prints { (text : List ℕ) → IsGiven R.given R.at_end log result.0 text →
-        Prints K.taken K.broken out result.1 result.2 (LogCommandText command plan.now text) }
-    ensures reads { Reads R.given R.coming R.broken R.at_end log result.0 result.2 }
-    // If the plan is refused, the log is not touched; one that is no text never gives Memory.
-    ensures refuses { RefusesPlan plan.now log result.0 result.2 }
-    // Behind the line at which a log is refused no more is pulled than a reader holds.
-    ensures stops { StopsAtRefusal R.given R.at_end plan.now log result.0 result.2 }
+    // What it prints and leaves, by the text of the command.
+    ensures runs { RunsOnLog R.Source K.Sink (LogCommandText command) plan.now log out result }
     // `audit` answers Settled exactly where the log shows right tables, and then packets arrive.
     ensures headline { (all : Bool) → command ≡ LogCommand.Audit all →
         (text : List ℕ) → IsGiven R.given R.at_end log result.0 text →
@@ -231,7 +223,7 @@ pub(crate) fn run_on_log<R: Source, K: Sink, S: BuildHasher + Drop>(
         (n : Network) (s : State) → IsAccepted plan.now text n s →
         IfOk result.2 (IsJudged n s) }
 {
-    one_set_of_tables();
+    accepted_tables();
     match command {
         LogCommand::Audit { all } => run_audit(alloc, plan, log, out, all, hasher),
         LogCommand::Explain { all } => run_explain(alloc, plan, log, out, all, hasher),
@@ -251,12 +243,7 @@ pub(crate) fn run_anyway<R: Source, K: Sink, S: BuildHasher + Drop>(
     prefixes: S,
     strangers: S,
 ) -> (R, K, Result<Status, RunError>)
-    ensures prints { (text : List ℕ) → IsGiven R.given R.at_end log result.0 text →
-        Prints K.taken K.broken out result.1 result.2 (AnywayCommandText command plan.now text) }
-    // Read only where the source has failed, or a line has more than 2^64 - 1 bytes.
-    ensures reads { ReadsOn R.given R.coming R.broken R.at_end log result.0 result.2 }
-    // If the plan is refused, the log is not touched; one that is no text never gives Memory.
-    ensures refuses { RefusesPlan plan.now log result.0 result.2 }
+    ensures runs { RunsToEnd R.Source K.Sink (AnywayCommandText command) plan.now log out result }
 {
     match command {
         AnywayCommand::Heard => run_heard(alloc, plan, log, out, prefixes, strangers),

@@ -4,9 +4,9 @@ ghost use Rattle.std.specs.Prelude.{◌≡◌, ◌≢◌, ◌↔◌, List, [], �
 ghost use Rattle.rip_wire.specs.Name.{IsName};
 ghost use Rattle.rip_report.specs.Selections.{Part};
 ghost use Rattle.ripaudit.specs.CaptureWords.{AreFineWords, IsCaptureWord, IsFileName, IsFirstBadWord, IsPartText, IsStem, part_in};
-ghost use Rattle.ripaudit.specs.Whiches.{choice_in};
+ghost use Rattle.ripaudit.specs.SelectionTexts.{selection_in};
 
-use crate::which::{Which, which_of};
+use crate::selections::{NamedSelection, named_selection};
 use rip_report::{FilePart, Selection};
 use rip_wire::is_name;
 
@@ -15,8 +15,8 @@ use rip_wire::is_name;
 pub(crate) struct CaptureWord<'a> {
     /// The name of the link.
     pub(crate) link: &'a str,
-    /// Which packets are its own, or all.
-    pub(crate) which: Option<Which<'a>>,
+    /// Which packets are its own.
+    pub(crate) selection: NamedSelection<'a>,
     /// The name of the file, `-` for standard input.
     pub(crate) path: &'a str,
 }
@@ -29,13 +29,12 @@ impl CaptureWord<'_> {
     pub(crate) fn part(&self) -> FilePart<'_>
         ensures { part_of result ≡ part_in self.now }
     {
-        let packets = match &self.which {
-            None => Selection::OneOrigin,
-            Some(which) => Selection::Of(which.interface.as_bytes(), which.vlans.as_slice()),
-        };
         FilePart {
             link: self.link,
-            packets,
+            selection: Selection {
+                interface: self.selection.interface.as_bytes(),
+                vlans: self.selection.vlans.as_slice(),
+            },
         }
     }
 
@@ -71,20 +70,24 @@ fn stem(name: &str) -> &str
 /// is none.
 fn part_of_file<'a>(
     link: &'a str,
-    which: Option<Which<'a>>,
+    selection: NamedSelection<'a>,
     path: &'a str,
 ) -> Option<CaptureWord<'a>>
     ensures named { IfSome result (λ w.
-        (part_in w ≡ record { link = link.now; choice = choice_in which.entry })
+        (part_in w ≡ record { link = link.now; selection = selection_in selection.entry })
         × (w.path.now ≡ path.now) × IsName link.now × (path.now ≢ [])) }
     ensures found { IsName link.now → path.now ≢ [] → IsSomeAnd result (λ w.
-        (part_in w ≡ record { link = link.now; choice = choice_in which.entry })
+        (part_in w ≡ record { link = link.now; selection = selection_in selection.entry })
         × (w.path.now ≡ path.now)) }
 {
     if path.is_empty() || !is_name(link.as_bytes()) {
         return None;
     }
-    Some(CaptureWord { link, which, path })
+    Some(CaptureWord {
+        link,
+        selection,
+        path,
+    })
 }
 
 /// What a word `LINK=FILE` or `LINK@WHICH=FILE` names, by what stands on both sides.
@@ -95,8 +98,8 @@ fn named_part<'a>(text: &'a str, path: &'a str) -> Option<CaptureWord<'a>>
         IsSomeAnd result (λ w. (part_in w ≡ part) × (w.path.now ≡ path.now)) }
 {
     match text.split_once('@') {
-        Some((link, which)) => part_of_file(link, Some(which_of(which)?), path),
-        None => part_of_file(text, None, path),
+        Some((link, which)) => part_of_file(link, named_selection(which)?, path),
+        None => part_of_file(text, NamedSelection::nothing(), path),
     }
 }
 
@@ -112,7 +115,7 @@ pub(crate) fn capture_word(word: &str) -> Option<CaptureWord<'_>>
         Some((text, path)) => named_part(text, path),
         None => match word {
             "-" => None,
-            _ => part_of_file(stem(file_name(word)), None, word),
+            _ => part_of_file(stem(file_name(word)), NamedSelection::nothing(), word),
         },
     }
 }

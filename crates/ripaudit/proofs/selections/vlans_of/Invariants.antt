@@ -1,8 +1,8 @@
 use Rattle.std.proofs.Common.{◌≡◌, ◌++◌, ◌-◌, ℕ, List, length}
 use denote.Text.{Utf8}
 use denote.Shadow.{shadow}
-use Rattle.ripaudit.specs.Whiches.{AreVlanTexts}
-use Rattle.ripaudit.proofs.which.vlans_of.Given as goal
+use Rattle.ripaudit.specs.SelectionTexts.{AreVlanTexts}
+use Rattle.ripaudit.proofs.selections.vlans_of.Given as goal
 
 abbrev pub invariant-numbers : goal.invariant-numbers
 invariant-numbers l = shadow (Utf8 l.rest) × record {

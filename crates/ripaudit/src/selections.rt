@@ -2,28 +2,41 @@
 //! `eth2@103`.
 
 ghost use Rattle.std.specs.Prelude.{◌≡◌, ◌↔◌, List, ℕ, Decides, IfSome, IsSomeAnd, Some};
-ghost use Rattle.rip_report.specs.Selections.{Choice};
+ghost use Rattle.rip_report.specs.Selections.{Selection};
 ghost use Rattle.ripaudit.specs.Texts.{Lacks};
-ghost use Rattle.ripaudit.specs.Whiches.{AreVlans, IsInterfaceName, IsVlanText, IsWhich, choice_in, is_digit_or_dot, is_digits_and_dots};
+ghost use Rattle.ripaudit.specs.SelectionTexts.{AreVlans, IsInterfaceName, IsSelectionText, IsVlanText, is_digit_or_dot, is_digits_and_dots, selection_in};
 
 use arrayvec::ArrayVec;
 use itoa::Buffer;
+use rip_capture::MOST_NAME;
 
 /// The greatest number of a VLAN (IEEE 802.1Q).
 const MOST_VLAN: u16 = 4_094;
 
 /// The most VLANs of a word.
-const MOST_VLANS: usize = 4;
+const MOST_NAMED_VLANS: usize = 4;
 
-/// The most bytes of an interface's name.
-const MOST_NAME: usize = 64;
-
-/// The packets of an interface, where there is a name, and of just these VLANs, where there are
-/// any.
+/// What a word names: an interface, where there is a name, and VLANs, where there are any; or
+/// nothing.
 #[derive(Drop)]
-pub(crate) struct Which<'a> {
+pub(crate) struct NamedSelection<'a> {
     pub(crate) interface: &'a str,
-    pub(crate) vlans: ArrayVec<u16, MOST_VLANS>,
+    pub(crate) vlans: ArrayVec<u16, MOST_NAMED_VLANS>,
+}
+
+impl<'a> NamedSelection<'a> {
+    ghost use Rattle.rip_report.specs.Selections.{nothing_named};
+    ghost use Rattle.ripaudit.specs.SelectionTexts.{selection_in};
+
+    /// Nothing is named.
+    pub(crate) fn nothing() -> NamedSelection<'a>
+        ensures { selection_in result ≡ nothing_named }
+    {
+        NamedSelection {
+            interface: "",
+            vlans: ArrayVec::new(),
+        }
+    }
 }
 
 /// The number of a VLAN, 1 to 4094, in decimal digits without a leading zero.
@@ -38,14 +51,14 @@ fn vlan_of(text: &str) -> Option<u16>
 }
 
 /// At most four VLANs, outermost first, with dots between them.
-fn vlans_of(text: &str) -> Option<ArrayVec<u16, MOST_VLANS>>
+fn vlans_of(text: &str) -> Option<ArrayVec<u16, MOST_NAMED_VLANS>>
     ensures named { IfSome result (λ vlans. AreVlans text.now vlans.items) }
     ensures found { (vlans : List ℕ) → AreVlans text.now vlans →
         IsSomeAnd result (λ v. v.items ≡ vlans) }
 {
     let mut vlans = ArrayVec::new();
     let mut rest = text;
-    'numbers: while vlans.len() < MOST_VLANS {
+    'numbers: while vlans.len() < MOST_NAMED_VLANS {
         let Some((number, more)) = rest.split_once('.') else {
             vlans.push(vlan_of(rest)?);
             return Some(vlans);
@@ -79,27 +92,27 @@ fn is_interface_name(text: &str) -> bool
 }
 
 /// An interface and VLANs with `@` between them, or one of them alone.
-pub(crate) fn which_of(text: &str) -> Option<Which<'_>>
-    ensures named { IfSome result (λ which. IsWhich text.now (choice_in (Some which))) }
-    ensures found { (choice : Choice) → IsWhich text.now choice →
-        IsSomeAnd result (λ which. choice_in (Some which) ≡ choice) }
+pub(crate) fn named_selection(text: &str) -> Option<NamedSelection<'_>>
+    ensures named { IfSome result (λ named. IsSelectionText text.now (selection_in named)) }
+    ensures found { (selection : Selection) → IsSelectionText text.now selection →
+        IsSomeAnd result (λ named. selection_in named ≡ selection) }
 {
     if let Some((interface, numbers)) = text.split_once('@') {
         if !is_interface_name(interface) {
             return None;
         }
         let vlans = vlans_of(numbers)?;
-        return Some(Which { interface, vlans });
+        return Some(NamedSelection { interface, vlans });
     }
     if is_interface_name(text) {
         let vlans = ArrayVec::new();
-        return Some(Which {
+        return Some(NamedSelection {
             interface: text,
             vlans,
         });
     }
     let vlans = vlans_of(text)?;
-    Some(Which {
+    Some(NamedSelection {
         interface: "",
         vlans,
     })

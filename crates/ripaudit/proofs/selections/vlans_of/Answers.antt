@@ -1,9 +1,9 @@
 use Rattle.std.proofs.Common.{◌≡◌, ◌∙◌, ◌++◌, ◌∷◌, [], None, Some, rules, ap, append_assoc, arith, refl, subst, sym}
 use Rattle.std.proofs.lemmas.Str.Pattern.{split_parts}
-use Rattle.ripaudit.specs.Whiches.{AreVlanTexts, last, more}
+use Rattle.ripaudit.specs.SelectionTexts.{AreVlanTexts, last, more}
 use Rattle.ripaudit.proofs.CaptureWordLemmas.{lacks}
-use Rattle.ripaudit.proofs.WhichLemmas.{first_vlan, last_vlan}
-use Rattle.ripaudit.proofs.which.vlans_of.Goals as goal
+use Rattle.ripaudit.proofs.SelectionTextLemmas.{first_vlan, last_vlan}
+use Rattle.ripaudit.proofs.selections.vlans_of.Goals as goal
 
 pub returns-in_err-vlan_of-clause-found : goal.returns-in_err-vlan_of-clause-found
 returns-in_err-vlan_of-clause-found c = λ vlans are.

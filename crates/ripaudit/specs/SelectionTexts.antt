@@ -1,9 +1,9 @@
 -- Which packets of a file a word of `log` names: by an interface, by VLANs, or by both.
-use Rattle.std.specs.Prelude.{◌≡◌, ◌≤◌, ◌++◌, ◌∷◌, [], ◌||◌, ◌&&◌, ◌==◌, nat_le, ℕ, Bool, false, List, length, codes, decimal, Option, Some, None}
+use Rattle.std.specs.Prelude.{◌≡◌, ◌≤◌, ◌++◌, ◌∷◌, [], ◌||◌, ◌&&◌, ◌==◌, nat_le, ℕ, Bool, false, List, length, codes, decimal}
 use Rattle.std.specs.List.{list_all}
-use Rattle.rip_report.specs.Selections.{Choice, Of, OneOrigin}
+use Rattle.rip_report.specs.Selections.{Selection}
 use Rattle.ripaudit.specs.Texts.{Lacks}
-use Rattle.ripaudit.specs.declared.which.Which.{Which}
+use Rattle.ripaudit.specs.declared.selections.NamedSelection.{NamedSelection}
 
 -- the number of a VLAN in decimal digits
 pub record IsVlanText (text : List ℕ) (vlan : ℕ) : Type 0 where
@@ -40,15 +40,15 @@ pub record IsInterfaceName (text : List ℕ) : Type 0 where
   pub other : is_digits_and_dots text ≡ false
 
 -- a text says which packets: those of an interface, those of VLANs, or both, in this order
-pub data IsWhich (text : List ℕ) (choice : Choice) : Type 0 where
-  interface : IsInterfaceName text → choice ≡ Of text [] → IsWhich text choice
-  vlans : (numbers : List ℕ) → AreVlans text numbers → choice ≡ Of [] numbers →
-      IsWhich text choice
+pub data IsSelectionText (text : List ℕ) (selection : Selection) : Type 0 where
+  interface : IsInterfaceName text → selection ≡ record { interface = text; vlans = [] } →
+      IsSelectionText text selection
+  vlans : (numbers : List ℕ) → AreVlans text numbers →
+      selection ≡ record { interface = []; vlans = numbers } → IsSelectionText text selection
   both : (name digits numbers : List ℕ) → text ≡ name ++ (codes "@" ++ digits) →
-      IsInterfaceName name → AreVlans digits numbers → choice ≡ Of name numbers →
-      IsWhich text choice
+      IsInterfaceName name → AreVlans digits numbers →
+      selection ≡ record { interface = name; vlans = numbers } → IsSelectionText text selection
 
--- the packets that are chosen
-abbrev pub choice_in : Option Which → Choice
-choice_in None = OneOrigin
-choice_in (Some which) = Of which.interface.now which.vlans.items
+-- the packets that are named
+abbrev pub selection_in : NamedSelection → Selection
+selection_in named = record { interface = named.interface.now; vlans = named.vlans.items }

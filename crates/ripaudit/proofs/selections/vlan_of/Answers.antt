@@ -1,8 +1,8 @@
 use Rattle.std.proofs.Common.{◌≡◌, ◌∙◌, ap, arith, decimal, Some, subst, sym}
-use Rattle.ripaudit.proofs.WhichLemmas.{different, parsed_vlan, same_text}
-use Rattle.ripaudit.specs.Whiches.{IsVlanText}
-use Rattle.ripaudit.proofs.which.vlan_of.Goals as goal
-use Rattle.ripaudit.proofs.which.vlan_of.Goals.{then-vlan-eq0-via-then-vlan-eq0, then-vlan-eq0-via-else-vlan-eq0+then-vlan-gt-MOST_VLAN, then-vlan-eq0-via-else-vlan-eq0+else-vlan-gt-MOST_VLAN+then-ne}
+use Rattle.ripaudit.proofs.SelectionTextLemmas.{different, parsed_vlan, same_text}
+use Rattle.ripaudit.specs.SelectionTexts.{IsVlanText}
+use Rattle.ripaudit.proofs.selections.vlan_of.Goals as goal
+use Rattle.ripaudit.proofs.selections.vlan_of.Goals.{then-vlan-eq0-via-then-vlan-eq0, then-vlan-eq0-via-else-vlan-eq0+then-vlan-gt-MOST_VLAN, then-vlan-eq0-via-else-vlan-eq0+else-vlan-gt-MOST_VLAN+then-ne}
 
 pub returns-in_err-vlan : goal.returns-in_err-vlan
 returns-in_err-vlan c vlan = (

@@ -8,7 +8,7 @@ use Rattle.std.proofs.lemmas.Bool.{cases_Bool, le-leb}
 use Rattle.std.proofs.lemmas.List.Elements.{All-append}
 use Rattle.std.proofs.lemmas.List.Sums.{AllPass-from_list_all, list_all-from_AllPass}
 use Rattle.rip_wire.specs.Name.{IsName, IsNameByte}
-use Rattle.rip_report.specs.Selections.{Choice, Of, OneOrigin, Part}
+use Rattle.rip_report.specs.Selections.{Part, Selection, nothing_named}
 use Rattle.std.specs.Str.{bytes_eq}
 use Rattle.std.specs.Str.Parse.{ParsesUnsigned}
 use Rattle.std.proofs.lemmas.Fmt.{parse-decimal}
@@ -16,7 +16,7 @@ use Rattle.std.proofs.lemmas.Slice.Eq.{bytes_eq-Decides}
 use Rattle.rip_wire.proofs.ParsingLemmas.{Lacks-decimal}
 use Rattle.ripaudit.specs.Texts.{Lacks}
 use Rattle.ripaudit.specs.CaptureWords.{IsPartText, link, part_in, which}
-use Rattle.ripaudit.specs.Whiches.{AreVlanTexts, AreVlans, IsInterfaceName, IsVlanText, IsWhich, both, interface, is_digit_or_dot, is_digits_and_dots, last, more, vlans}
+use Rattle.ripaudit.specs.SelectionTexts.{AreVlanTexts, AreVlans, IsInterfaceName, IsSelectionText, IsVlanText, both, interface, is_digit_or_dot, is_digits_and_dots, last, more, vlans}
 use Rattle.ripaudit.specs.declared.words.CaptureWord.{CaptureWord}
 use Rattle.ripaudit.proofs.CaptureWordLemmas.{has_byte, lacks}
 
@@ -106,18 +106,18 @@ vlans_lack text all are k d lt e = cc (sym (ap is_digit_or_dot e) ∙ vlans_pass
 -- ---- what stands behind a link
 
 -- with `@` there are an interface and VLANs
-pub only_both : (text a b : List ℕ) (choice : Choice) → text ≡ a ++ 64 ∷ b → Lacks 64 a → IsWhich text choice → (numbers : List ℕ) × IsInterfaceName a × AreVlans b numbers × (choice ≡ Of a numbers)
-only_both text a b choice cut_at without (interface is e) = absurd (has_byte 64 a b (subst (Lacks 64) cut_at is.lacks))
-only_both text a b choice cut_at without (vlans numbers are e) = absurd (has_byte 64 a b (subst (Lacks 64) cut_at (vlans_lack text numbers are.texts)))
-only_both text a b choice cut_at without (both name digits numbers split is are e) =
+pub only_both : (text a b : List ℕ) (selection : Selection) → text ≡ a ++ 64 ∷ b → Lacks 64 a → IsSelectionText text selection → (numbers : List ℕ) × IsInterfaceName a × AreVlans b numbers × (selection ≡ record { interface = a; vlans = numbers })
+only_both text a b selection cut_at without (interface is e) = absurd (has_byte 64 a b (subst (Lacks 64) cut_at is.lacks))
+only_both text a b selection cut_at without (vlans numbers are e) = absurd (has_byte 64 a b (subst (Lacks 64) cut_at (vlans_lack text numbers are.texts)))
+only_both text a b selection cut_at without (both name digits numbers split is are e) =
     let same = one_first 64 a b name digits (sym cut_at ∙ split) without is.lacks in
-    (numbers, subst IsInterfaceName (sym same.0) is, subst (λ (t : List ℕ). AreVlans t numbers) (sym same.1) are, e ∙ ap (λ (l : List ℕ). Of l numbers) (sym same.0))
+    (numbers, subst IsInterfaceName (sym same.0) is, subst (λ (t : List ℕ). AreVlans t numbers) (sym same.1) are, e ∙ ap (λ (l : List ℕ). record { interface = l; vlans = numbers }) (sym same.0))
 
 -- without it there is one of them
-pub only_one : (text : List ℕ) (choice : Choice) → Lacks 64 text → IsWhich text choice → (IsInterfaceName text × (choice ≡ Of text [])) ⊎ ((numbers : List ℕ) × AreVlans text numbers × (choice ≡ Of [] numbers))
-only_one text choice without (interface is e) = inl (is, e)
-only_one text choice without (vlans numbers are e) = inr (numbers, are, e)
-only_one text choice without (both name digits numbers split is are e) = absurd (has_byte 64 name digits (subst (Lacks 64) split without))
+pub only_one : (text : List ℕ) (selection : Selection) → Lacks 64 text → IsSelectionText text selection → (IsInterfaceName text × (selection ≡ record { interface = text; vlans = [] })) ⊎ ((numbers : List ℕ) × AreVlans text numbers × (selection ≡ record { interface = []; vlans = numbers }))
+only_one text selection without (interface is e) = inl (is, e)
+only_one text selection without (vlans numbers are e) = inr (numbers, are, e)
+only_one text selection without (both name digits numbers split is are e) = absurd (has_byte 64 name digits (subst (Lacks 64) split without))
 
 -- an interface does not look like VLANs
 pub no_vlans : (text numbers : List ℕ) → IsInterfaceName text → AreVlans text numbers → ⊥
@@ -137,21 +137,21 @@ name_lacks text is k d lt e = at_sign (subst IsNameByte e (is.bytes k d lt)) whe
 
 -- with `@` a link stands in front of it
 pub part_behind : (text a b : List ℕ) (part : Part) → text ≡ a ++ 64 ∷ b → Lacks 64 a → IsPartText text part
-    → (choice : Choice) × IsName a × IsWhich b choice × (part ≡ record { link = a; choice = choice })
+    → (selection : Selection) × IsName a × IsSelectionText b selection × (part ≡ record { link = a; selection = selection })
 part_behind text a b part cut_at without (link is e) = absurd (has_byte 64 a b (subst (Lacks 64) cut_at (name_lacks text is)))
-part_behind text a b part cut_at without (which name behind choice split is what e) =
+part_behind text a b part cut_at without (which name behind selection split is what e) =
     let same = one_first 64 a b name behind (sym cut_at ∙ split) without (name_lacks name is) in
-    (choice, subst IsName (sym same.0) is, subst (λ (t : List ℕ). IsWhich t choice) (sym same.1) what, e ∙ ap (λ (l : List ℕ). record { link = l; choice = choice }) (sym same.0))
+    (selection, subst IsName (sym same.0) is, subst (λ (t : List ℕ). IsSelectionText t selection) (sym same.1) what, e ∙ ap (λ (l : List ℕ). record { link = l; selection = selection }) (sym same.0))
 
 -- without it there is a link alone
-pub part_alone : (text : List ℕ) (part : Part) → Lacks 64 text → IsPartText text part → IsName text × (part ≡ record { link = text; choice = OneOrigin })
+pub part_alone : (text : List ℕ) (part : Part) → Lacks 64 text → IsPartText text part → IsName text × (part ≡ record { link = text; selection = nothing_named })
 part_alone text part without (link is e) = (is, e)
-part_alone text part without (which name behind choice split is what e) = absurd (has_byte 64 name behind (subst (Lacks 64) split without))
+part_alone text part without (which name behind selection split is what e) = absurd (has_byte 64 name behind (subst (Lacks 64) split without))
 
 -- what a file of a link names
-pub named_so : (text a path : List ℕ) (choice : Choice) (r : Option CaptureWord) → (IsName a → IsPartText text (record { link = a; choice = choice }))
-    → IfSome r (λ w. (part_in w ≡ record { link = a; choice = choice }) × (w.path.now ≡ path) × IsName a × (path ≢ []))
+pub named_so : (text a path : List ℕ) (selection : Selection) (r : Option CaptureWord) → (IsName a → IsPartText text (record { link = a; selection = selection }))
+    → IfSome r (λ w. (part_in w ≡ record { link = a; selection = selection }) × (w.path.now ≡ path) × IsName a × (path ≢ []))
     → IfSome r (λ w. IsPartText text (part_in w) × IsName w.link.now × (w.path.now ≡ path) × (path ≢ []))
-named_so text a path choice None is h = tt
-named_so text a path choice (Some w) is h =
+named_so text a path selection None is h = tt
+named_so text a path selection (Some w) is h =
     (subst (IsPartText text) (sym h.0) (is h.2), subst IsName (sym (ap (λ (p : Part). p.link) h.0)) h.2, h.1, h.3)
