@@ -1,5 +1,5 @@
 -- What the join of a response's entries is, part by part.
-use Rattle.std.proofs.Common.{◌≡◌, ℕ, ◌==◌, ◌<◌, Bool, true, false, cond, ◌&&◌, ◌||◌, not, List, [], ◌∷◌, ◌++◌, length, replicate, Option, Some, None, Ok, Err, refl, sym, ap, subst, ◌∙◌, set}
+use Rattle.std.proofs.Common.{◌≡◌, ℕ, ◌==◌, ◌<◌, Bool, true, false, cond, ◌&&◌, ◌||◌, not, List, [], ◌∷◌, ◌++◌, length, replicate, Option, Some, None, Result, Ok, Err, refl, sym, ap, subst, ◌∙◌, set}
 use Rattle.std.proofs.Math.ListN.{length-set}
 use Rattle.std.proofs.lemmas.Bool.{and_parts, eqb-true}
 use mathlib.Core.Path.{fun_ext}
@@ -10,7 +10,7 @@ use Rattle.rip_plan.specs.Passes.{same_prefix}
 use Rattle.rip_table.specs.State.{IsState, State, is_among, with_prefix}
 use Rattle.rip_table.specs.Joined.{is_foreign, is_past, joined_at, joined_entries, with_heard, with_metric}
 use Rattle.rip_table.specs.Numbers.{AreFaultless}
-use Rattle.rip_table.specs.Rows.{AreWritten, Rows, cell, grid_state, heads, shown_after, with_row, with_rows}
+use Rattle.rip_table.specs.Rows.{AreMade, AreWritten, IsMade, IsWritten, Rows, cell, grid_state, heads, shown_after, with_row, with_rows}
 use Rattle.rip_table.specs.declared.error.TableError.TheVariants.{Changed, NextHop, TooManyPrefixes}
 use Rattle.rip_table.proofs.TruthLemmas.{or-true, then-split}
 use Rattle.rip_table.proofs.PrefixListLemmas.{is_among-append}
@@ -26,13 +26,13 @@ prefixes_after ps [] = ps
 prefixes_after ps (e ∷ es) = prefixes_after (with_prefix e.prefix ps) es
 
 abbrev pub after_all : State → ℕ → List Entry → State
-after_all s i es = record { interfaces = s.interfaces; prefixes = prefixes_after s.prefixes es; shows = shown_after s.shows i es; heard = s.heard }
+after_all s i es = record { interfaces = s.interfaces; prefixes = prefixes_after s.prefixes es; shows = shown_after (λ m. Some m) s.shows i es; heard = s.heard }
 
 -- what the interface showed is of a prefix of the list
 abbrev pub Listed : State → ℕ → Type 0
 Listed s i = (p : Block) (m : ℕ) → s.shows i p ≡ Some m → is_among p s.prefixes ≡ true
 
-kept_among : (ps : List Block) (p q : Block) → is_among q ps ≡ true → is_among q (with_prefix p ps) ≡ true
+pub kept_among : (ps : List Block) (p q : Block) → is_among q ps ≡ true → is_among q (with_prefix p ps) ≡ true
 kept_among ps p q h = by (is_among p ps)
   where
     by : (b : Bool) → is_among q (cond b ps (ps ++ p ∷ [])) ≡ true
@@ -91,36 +91,47 @@ joined-after net i s t (e ∷ es) listed h =
     let is = joined_is net i s split.0 e listed (s.shows i e.prefix) refl split.1 in
     joined-after net i (with_metric s i e.prefix e.metric) t es (listed_with s i e.metric e.prefix listed) (ap (λ (u : State). joined_entries net i u es) (sym is) ∙ split.2)
 
-heads_with : (w : ℕ) (rows : Rows) (p : Block) (b : Bool) → heads (cond b rows (rows ++ (p, replicate {A = Option ℕ} w None) ∷ [])) ≡ cond b (heads rows) (heads rows ++ p ∷ [])
-heads_with w rows p true = refl
-heads_with w rows p false = heads-append rows (p, replicate w None)
+heads_with : {Cell : Type 0} (blank : Cell) (w : ℕ) (rows : Rows Cell) (p : Block) (b : Bool) → heads (cond b rows (rows ++ (p, replicate w blank) ∷ [])) ≡ cond b (heads rows) (heads rows ++ p ∷ [])
+heads_with blank w rows p true = refl
+heads_with blank w rows p false = heads-append rows (p, replicate w blank)
 
 -- the prefixes of the rows that were added
-pub heads-with_rows : (w : ℕ) (rows : Rows) (es : List Entry) → heads (with_rows w rows es) ≡ prefixes_after (heads rows) es
-heads-with_rows w rows [] = refl
-heads-with_rows w rows (e ∷ es) = heads-with_rows w (with_row w rows e.prefix) es ∙ ap (λ (ps : List Block). prefixes_after ps es) (heads_with w rows e.prefix (is_among e.prefix (heads rows)))
+pub heads-with_rows : {Cell : Type 0} (blank : Cell) (w : ℕ) (rows : Rows Cell) (es : List Entry) → heads (with_rows blank w rows es) ≡ prefixes_after (heads rows) es
+heads-with_rows blank w rows [] = refl
+heads-with_rows blank w rows (e ∷ es) = heads-with_rows blank w (with_row blank w rows e.prefix) es ∙ ap (λ (ps : List Block). prefixes_after ps es) (heads_with blank w rows e.prefix (is_among e.prefix (heads rows)))
+
+-- the cells that entries made, in rows that were added
+pub made-is : {Cell : Type 0} (blank : Cell) (made : ℕ → Cell) (w i : ℕ) (es : List Entry) (rows grown new : Rows Cell) → grown ≡ with_rows blank w rows es → heads new ≡ heads grown
+    → cell blank new ≡ shown_after made (cell blank grown) i es → AreMade blank made w i es rows new
+made-is blank made w i es rows grown new grows names cells = record {
+  heads = names ∙ ap heads grows;
+  cells = cells ∙ ap (λ (f : ℕ → Block → _). shown_after made f i es) (ap (cell blank) grows ∙ cells-with_rows blank w rows es);
+}
 
 -- what was written to the grid is the join
-pub written-is : (net : Network) (i w : ℕ) (heard : List Bool) (rows grown new : Rows) (es : List Entry) (t : State) → i < length heard → IsState (grid_state heard rows)
-    → joined_entries net i (grid_state heard rows) es ≡ Ok t → grown ≡ with_rows w rows es → heads new ≡ heads grown → cell new ≡ shown_after (cell grown) i es
-    → grid_state heard new ≡ t
-written-is net i w heard rows grown new es t lt valid joins grows names cells =
+pub written-is : (net : Network) (i w : ℕ) (heard : List Bool) (rows new : Rows (Option ℕ)) (es : List Entry) (t : State) → i < length heard → IsState (grid_state heard rows)
+    → joined_entries net i (grid_state heard rows) es ≡ Ok t → AreMade None (λ m. Some m) w i es rows new → grid_state heard new ≡ t
+written-is net i w heard rows new es t lt valid joins made =
     let s = grid_state heard rows in
-    let prefixes : heads new ≡ prefixes_after (heads rows) es = names ∙ ap heads grows ∙ heads-with_rows w rows es in
-    let shows : cell new ≡ shown_after (cell rows) i es = cells ∙ ap (λ (f : ℕ → Block → Option ℕ). shown_after f i es) (ap cell grows ∙ cells-with_rows w rows es) in
+    let prefixes : heads new ≡ prefixes_after (heads rows) es = made.heads ∙ heads-with_rows None w rows es in
     let after : t ≡ after_all s i es = joined-after net i s t es (λ p m h. (valid.shown i m p lt h).listed) joins in
-    ap (λ (ps : List Block). record { interfaces = length heard; prefixes = ps; shows = cell new; heard = s.heard }) prefixes
-    ∙ ap (λ (f : ℕ → Block → Option ℕ). record { interfaces = length heard; prefixes = prefixes_after (heads rows) es; shows = f; heard = s.heard }) shows
+    ap (λ (ps : List Block). record { interfaces = length heard; prefixes = ps; shows = cell None new; heard = s.heard }) prefixes
+    ∙ ap (λ (f : ℕ → Block → Option ℕ). record { interfaces = length heard; prefixes = prefixes_after (heads rows) es; shows = f; heard = s.heard }) made.cells
     ∙ sym after
 
+-- what was made of the entries of an interface was written
+pub made-written : {E : Type 0} (i w : ℕ) (es : List Entry) (old new : Rows (Option ℕ)) (r : Result (Unit {0}) E) → IsMade None (λ m. Some m) w i es old new r → IsWritten i es old new r
+made-written i w es old new (Ok u) made = λ heard net t lt valid joins. written-is net i w heard old new es t lt valid joins made
+made-written i w es old new (Err e) made = made
+
 -- marking an interface as heard
-pub grid_state-heard : (heard : List Bool) (rows : Rows) (i : ℕ) → i < length heard → grid_state (set heard i true) rows ≡ with_heard (grid_state heard rows) i
+pub grid_state-heard : (heard : List Bool) (rows : Rows (Option ℕ)) (i : ℕ) → i < length heard → grid_state (set heard i true) rows ≡ with_heard (grid_state heard rows) i
 grid_state-heard heard rows i lt =
-    ap (λ (n : ℕ). record { interfaces = n; prefixes = heads rows; shows = cell rows; heard = (grid_state (set heard i true) rows).heard }) (length-set heard i true)
-    ∙ ap (λ (f : ℕ → Bool). record { interfaces = length heard; prefixes = heads rows; shows = cell rows; heard = f }) (heard-with heard i lt)
+    ap (λ (n : ℕ). record { interfaces = n; prefixes = heads rows; shows = cell None rows; heard = (grid_state (set heard i true) rows).heard }) (length-set heard i true)
+    ∙ ap (λ (f : ℕ → Bool). record { interfaces = length heard; prefixes = heads rows; shows = cell None rows; heard = f }) (heard-with heard i lt)
 
 -- what was taken is the join of the entries
-pub taken-is : (net : Network) (i : ℕ) (heard : List Bool) (rows new : Rows) (es : List Entry) → i < length heard → IsState (grid_state heard rows)
+pub taken-is : (net : Network) (i : ℕ) (heard : List Bool) (rows new : Rows (Option ℕ)) (es : List Entry) → i < length heard → IsState (grid_state heard rows)
     → (checked : AreFaultless net i (grid_state heard rows) es) → AreWritten i es rows new → grid_state (set heard i true) new ≡ checked.0
 taken-is net i heard rows new es lt valid checked written =
     let same = grid_state-heard heard rows i lt in

@@ -13,6 +13,10 @@ pub mod NewLemmas
 pub mod RowLemmas
 pub mod CellLemmas
 pub mod AfterLemmas
+pub mod FrontLemmas
+pub mod WindowLemmas
+pub mod ForgetLemmas
+pub mod RememberLemmas
 pub mod HopLemmas
 pub mod MakesLemmas
 pub mod MetricLemmas

@@ -60,12 +60,12 @@ none_at (suc n) zero = refl
 none_at (suc n) (suc i) = none_at n i
 
 -- the rows of a plan's prefixes mean its new table
-pub grid-new : (n : Network) → grid_state (replicate (length n.interfaces) false) (planned_rows (length n.interfaces) n.prefixes) ≡ new_state n
+pub grid-new : (n : Network) → grid_state (replicate (length n.interfaces) false) (planned_rows None (length n.interfaces) n.prefixes) ≡ new_state n
 grid-new n =
     let w = length n.interfaces in
-    let rows = planned_rows w n.prefixes in
-    ap (λ (k : ℕ). record { interfaces = k; prefixes = heads rows; shows = cell rows; heard = (grid_state (replicate w false) rows).heard }) (length-none w)
-    ∙ ap (λ (ps : List Block). record { interfaces = w; prefixes = ps; shows = cell rows; heard = (grid_state (replicate w false) rows).heard }) (heads-planned w n.prefixes)
+    let rows = planned_rows None w n.prefixes in
+    ap (λ (k : ℕ). record { interfaces = k; prefixes = heads rows; shows = cell None rows; heard = (grid_state (replicate w false) rows).heard }) (length-none w)
+    ∙ ap (λ (ps : List Block). record { interfaces = w; prefixes = ps; shows = cell None rows; heard = (grid_state (replicate w false) rows).heard }) (heads-planned None w n.prefixes)
     ∙ ap (λ (f : ℕ → Block → Option ℕ). record { interfaces = w; prefixes = n.prefixes; shows = f; heard = (grid_state (replicate w false) rows).heard })
-    (fun_ext (λ i. fun_ext (λ p. cell-planned w n.prefixes i p)))
+    (fun_ext (λ i. fun_ext (λ p. cell-planned None w n.prefixes i p)))
     ∙ ap (λ (f : ℕ → Bool). record { interfaces = w; prefixes = n.prefixes; shows = λ i p. None; heard = f }) (fun_ext (none_at w))

@@ -5,6 +5,10 @@ pub mod Guesses
 pub mod Numbers
 pub mod ListState
 pub mod Rows
+pub mod Window
+pub mod WindowRows
+pub mod WindowFacts
+pub mod Remembered
 pub mod LogJoin
 pub mod Events
 pub mod CollectsAll

@@ -10,7 +10,10 @@ ghost use Rattle.rip_table.specs.declared.guesses.TheConstants.{SLOTS};
 mod cell;
 mod numbers;
 mod rows;
+pub(crate) mod window;
+mod word;
 
+use self::cell::Cell;
 use self::numbers::find_numbers;
 use self::rows::{Rows, add_new, add_planned};
 use crate::error::TableError;
@@ -29,7 +32,7 @@ use std::hash::BuildHasher;
 #[derive(Drop)]
 pub struct GridTable<S: BuildHasher> {
     alloc: Global,
-    rows: Rows<S>,
+    rows: Rows<Cell, S>,
     heard: Vec<bool>,
     guesses: Vec<u16>,
     entry_room: [Entry; MOST_ENTRIES],

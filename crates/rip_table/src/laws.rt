@@ -1,7 +1,7 @@
 //! Laws of the definitions alone: functions that do nothing, whose contracts hold of every plan and
 //! every log.
 
-ghost use Rattle.std.specs.Prelude.{◌≡◌, ◌≢◌, ◌≤◌, ◌↔◌, ℕ, true, List, [], ◌∷◌, ◌++◌, Option, None, Some, Ok, Err, slice_get};
+ghost use Rattle.std.specs.Prelude.{◌≡◌, ◌≢◌, ◌≤◌, ◌↔◌, ◌+◌, ℕ, true, List, [], ◌∷◌, ◌++◌, Option, None, Some, Ok, Err, slice_get};
 ghost use Rattle.rip_wire.specs.Message.{request, response, message_in};
 ghost use Rattle.rip_wire.specs.declared.entry.Entry.{Entry};
 ghost use Rattle.rip_plan.specs.Network.{Network, found_at};
@@ -16,21 +16,24 @@ ghost use Rattle.rip_table.specs.Events.{AreCalm, ComeTo, EventAt, all_events, e
 ghost use Rattle.rip_table.specs.Firsts.{IsUpToRefusal};
 ghost use Rattle.rip_table.specs.Tallies.{counts_of};
 ghost use Rattle.rip_table.specs.LogJoin.{AreJoined, HasBadEntry, IsFirstRefused, IsJoin, IsJoined, IsListed, IsOutcome, IsResponse};
+ghost use Rattle.rip_table.specs.Window.{Window, forgotten, new_window, passed, shown, told_message};
+ghost use Rattle.rip_table.specs.Remembered.{Remembers, Taken};
 ghost use Rattle.rip_table.specs.declared.error.CollectCause.{CollectCause};
 ghost use Rattle.rip_table.specs.declared.error.CollectCause.TheVariants.{Table};
 ghost use Rattle.rip_table.specs.declared.error.TableError.{TableError};
 ghost use Rattle.rip_table.specs.declared.error.TableError.TheVariants.{Changed};
 ghost use Rattle.rip_table.specs.declared.error.CollectError.{CollectError};
 
-use crate::limits::MOST_PREFIXES;
+use crate::limits::{MOST_PREFIXES, MOST_WINDOW};
 use crate::tallies::strangers::MOST_STRANGERS;
 use rip_wire::laws;
 
 pub mod examples;
 
-/// The limits of a table, and of the strangers that are told of.
+/// The limits of a table, of a window, and of the strangers that are told of.
 pub fn limits()
     ensures prefixes { MOST_PREFIXES ≡ 2048 }
+    ensures window { MOST_WINDOW ≡ 86400 }
     ensures strangers { MOST_STRANGERS ≡ 256 }
 {}
 
@@ -150,6 +153,25 @@ pub fn kept_requests()
     ensures { (n : Network) (s : State) (c : Capture) →
         message_in c.datagram ≡ Ok request → joined_capture n s c ≡ Ok s }
 {}
+
+/// A table that forgets shows in each second what the responses of the last so many seconds told
+/// last, however it got there: new, told, a second later, or without the prefixes that nobody shows.
+pub fn windows()
+    ensures new { (n : Network) (seconds second : ℕ) → Remembers seconds second [] (new_window n) }
+    ensures told { (n : Network) (seconds second i : ℕ) (old new : Window) (c : Capture)
+        (entries : List Entry) (taken : List Taken) →
+        1 ≤ seconds → IsState (shown old) → Fits n (shown old) → IsResponse n c i entries →
+        told_message n seconds i old (response entries) ≡ Ok new →
+        Remembers seconds second taken old →
+        Remembers seconds second
+        (taken ++ (record { second = second; interface = i; entries = entries }) ∷ []) new }
+    ensures passed { (seconds second : ℕ) (taken : List Taken) (w : Window) →
+        Remembers seconds second taken w → Remembers seconds (second + 1) taken (passed w) }
+    ensures forgotten { (n : Network) (seconds second : ℕ) (taken : List Taken) (w : Window) →
+        Remembers seconds second taken w → Remembers seconds second taken (forgotten n w) }
+{
+    laws::response_fields();
+}
 
 /// The interface that is found for a link and a sender is the one that has the address there.
 pub fn found_interfaces()

@@ -7,6 +7,7 @@ ghost use Rattle.rip_table.specs.Guesses.{kept_number, key};
 ghost use Rattle.rip_table.specs.Numbers.{AreNumbers};
 ghost use Rattle.rip_table.specs.Rows.{AreDifferent, heads, rows_of};
 
+use super::cell::GridCell;
 use super::rows::Rows;
 use crate::guesses::{SLOTS, guess, remember};
 use crate::judging::Numbers;
@@ -26,7 +27,11 @@ fn key_of(prefix: Prefix) -> u32
 
 /// The number of a prefix, if it has a row: the guess, where it is right, and else the one that
 /// hashing finds.
-fn number_of<S: BuildHasher>(rows: &Rows<S>, guesses: &mut [u16], prefix: Prefix) -> Option<usize>
+fn number_of<C: GridCell, S: BuildHasher>(
+    rows: &Rows<C, S>,
+    guesses: &mut [u16],
+    prefix: Prefix,
+) -> Option<usize>
     requires differ { AreDifferent (heads (rows_of rows.now.entries)) }
     requires few { index_map_len rows.now ≤ MOST_PREFIXES }
     requires slots { length guesses.old ≡ SLOTS }
@@ -49,8 +54,8 @@ fn number_of<S: BuildHasher>(rows: &Rows<S>, guesses: &mut [u16], prefix: Prefix
 }
 
 /// Finds the numbers of the prefixes of the entries of a response.
-pub(crate) fn find_numbers<S: BuildHasher>(
-    rows: &Rows<S>,
+pub(crate) fn find_numbers<C: GridCell, S: BuildHasher>(
+    rows: &Rows<C, S>,
     guesses: &mut [u16],
     entries: &[Entry],
     numbers: &mut Numbers,

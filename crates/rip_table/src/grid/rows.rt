@@ -1,14 +1,14 @@
 //! Rows of cells, one for each prefix, in a hashed map that keeps their order.
 
-ghost use Rattle.std.specs.Prelude.{◌≡◌, ◌<◌, ◌≤◌, ℕ, Bool, List, [], length, true, Some, None, IfOk, OnOk, OnErr, replicate, take};
+ghost use Rattle.std.specs.Prelude.{◌≡◌, ◌<◌, ◌≤◌, ℕ, Bool, List, [], length, true, Some, IfOk, OnOk, OnErr, take};
 ghost use Rattle.indexmap.specs.IndexMap.{index_map_len};
 ghost use Rattle.rip_plan.specs.Network.{number_of_prefix};
 ghost use Rattle.rip_wire.specs.Message.{response};
 ghost use Rattle.rip_table.specs.Joined.{brings_pair};
 ghost use Rattle.rip_table.specs.Numbers.{AreNumbers};
-ghost use Rattle.rip_table.specs.Rows.{AreRowNumbers, CanWrite, IsGrid, IsWritten, cell, grid_state, heads, planned_rows, rows_of, shown_after, with_cell, with_row, with_rows};
+ghost use Rattle.rip_table.specs.Rows.{AreRowNumbers, CanWrite, IsGrid, IsMade, IsWritten, cell, grid_state, heads, planned_rows, rows_of, shown_after, with_cell, with_row, with_rows};
 
-use super::cell::Cell;
+use super::cell::{Cell, GridCell};
 use crate::judging::Numbers;
 use indexmap::IndexMap;
 use rip_plan::Plan;
@@ -17,23 +17,16 @@ use std::alloc::{AllocError, Global};
 use std::hash::BuildHasher;
 
 /// A row for each prefix, with a cell for each interface.
-pub(crate) type Rows<S> = IndexMap<Prefix, Vec<Cell>, S>;
+pub(crate) type Rows<C, S> = IndexMap<Prefix, Vec<C>, S>;
 
 /// The numbers of the rows of a response's entries.
 type RowNumbers = [usize; MOST_ENTRIES];
 
-/// A row of empty cells.
-fn empty_row(alloc: Global, width: usize) -> Result<Vec<Cell>, AllocError>
-    ensures { IfOk result (λ row. row.items ≡ replicate width None) }
-{
-    vec![in alloc; Cell::empty(); width]
-}
-
 /// The number of a prefix's row, which is added at the end where there is none. The number is asked
 /// for where it is not known.
-fn row_at<S: BuildHasher>(
+fn row_at<C: GridCell, S: BuildHasher>(
     alloc: Global,
-    rows: &mut Rows<S>,
+    rows: &mut Rows<C, S>,
     width: usize,
     number: Option<usize>,
     prefix: Prefix,
@@ -41,7 +34,7 @@ fn row_at<S: BuildHasher>(
     requires { (k : ℕ) → number ≡ Some k →
         number_of_prefix prefix (heads (rows_of rows.old.entries)) ≡ Some k }
     ensures ok { OnOk result (rows_of rows.new.entries
-        ≡ with_row width (rows_of rows.old.entries) prefix) }
+        ≡ with_row C.blank_cell width (rows_of rows.old.entries) prefix) }
     ensures number { IfOk result (λ k.
         number_of_prefix prefix (heads (rows_of rows.new.entries)) ≡ Some k) }
     ensures err { OnErr result (rows.new.entries ≡ rows.old.entries) }
@@ -53,16 +46,16 @@ fn row_at<S: BuildHasher>(
         return Ok(k);
     }
     let k = rows.len();
-    let row = empty_row(alloc, width)?;
+    let row = C::blank_row(alloc, width)?;
     rows.insert(prefix, row)?;
     Ok(k)
 }
 
 /// Adds rows for the prefixes that are new, and writes the numbers of all. Where memory fails, some
 /// are added.
-fn grow<S: BuildHasher>(
+fn grow<C: GridCell, S: BuildHasher>(
     alloc: Global,
-    rows: &mut Rows<S>,
+    rows: &mut Rows<C, S>,
     width: usize,
     numbers: &Numbers,
     entries: &[Entry],
@@ -71,7 +64,7 @@ fn grow<S: BuildHasher>(
     requires few { length entries.now ≤ MOST_ENTRIES }
     requires numbers { AreNumbers (heads (rows_of rows.old.entries)) entries.now numbers.now }
     ensures ok { OnOk result (rows_of rows.new.entries
-        ≡ with_rows width (rows_of rows.old.entries) entries.now) }
+        ≡ with_rows C.blank_cell width (rows_of rows.old.entries) entries.now) }
     ensures row_numbers { OnOk result
         (AreRowNumbers (rows_of rows.new.entries) entries.now row_numbers.new) }
     ensures front { take (index_map_len rows.old) (rows_of rows.new.entries)
@@ -86,9 +79,9 @@ fn grow<S: BuildHasher>(
 
 /// Adds rows for the prefixes that are new, and writes the numbers of all, or leaves the rows as
 /// they were.
-fn grow_or_keep<S: BuildHasher>(
+fn grow_or_keep<C: GridCell, S: BuildHasher>(
     alloc: Global,
-    rows: &mut Rows<S>,
+    rows: &mut Rows<C, S>,
     width: usize,
     numbers: &Numbers,
     entries: &[Entry],
@@ -97,7 +90,7 @@ fn grow_or_keep<S: BuildHasher>(
     requires few { length entries.now ≤ MOST_ENTRIES }
     requires numbers { AreNumbers (heads (rows_of rows.old.entries)) entries.now numbers.now }
     ensures ok { OnOk result (rows_of rows.new.entries
-        ≡ with_rows width (rows_of rows.old.entries) entries.now) }
+        ≡ with_rows C.blank_cell width (rows_of rows.old.entries) entries.now) }
     ensures row_numbers { OnOk result
         (AreRowNumbers (rows_of rows.new.entries) entries.now row_numbers.new) }
     ensures err { OnErr result (rows_of rows.new.entries ≡ rows_of rows.old.entries) }
@@ -113,12 +106,12 @@ fn grow_or_keep<S: BuildHasher>(
 }
 
 /// Writes to a cell.
-fn set_cell<S: BuildHasher>(
-    rows: &mut Rows<S>,
+fn set_cell<C: GridCell, S: BuildHasher>(
+    rows: &mut Rows<C, S>,
     k: usize,
     width: usize,
     interface: usize,
-    cell: Cell,
+    cell: C,
 )
     requires grid { IsGrid width (rows_of rows.old.entries) }
     requires row { k < index_map_len rows.old }
@@ -129,11 +122,12 @@ fn set_cell<S: BuildHasher>(
     row[interface] = cell;
 }
 
-/// Writes the metrics of a response's entries.
-fn write<S: BuildHasher>(
-    rows: &mut Rows<S>,
+/// Makes the cells of a response's entries.
+fn write<C: GridCell, S: BuildHasher>(
+    rows: &mut Rows<C, S>,
     width: usize,
     interface: usize,
+    term: C::Term,
     row_numbers: &RowNumbers,
     entries: &[Entry],
 )
@@ -143,8 +137,8 @@ fn write<S: BuildHasher>(
     requires row_numbers { AreRowNumbers (rows_of rows.old.entries) entries.now row_numbers.now }
     ensures heads { heads (rows_of rows.new.entries) ≡ heads (rows_of rows.old.entries) }
     ensures grid { IsGrid width (rows_of rows.new.entries) }
-    ensures cells { cell (rows_of rows.new.entries)
-        ≡ shown_after (cell (rows_of rows.old.entries)) interface entries.now }
+    ensures cells { cell C.blank_cell (rows_of rows.new.entries) ≡ shown_after (C.cell_of term)
+        (cell C.blank_cell (rows_of rows.old.entries)) interface entries.now }
 {
     for j in 0..entries.len() {
         let entry = entries[j];
@@ -153,30 +147,31 @@ fn write<S: BuildHasher>(
             row_numbers[j],
             width,
             interface,
-            Cell::of(entry.metric),
+            C::of(term, entry.metric),
         );
     }
 }
 
-/// Writes what the entries of a response show, or leaves the rows as they were.
+/// Makes the cells of a response's entries, or leaves the rows as they were. (Why so many arguments: DECISIONS.md.)
 #[inline(never)]
-fn add<S: BuildHasher>(
+pub(crate) fn add<C: GridCell, S: BuildHasher>(
     alloc: Global,
-    rows: &mut Rows<S>,
+    rows: &mut Rows<C, S>,
     width: usize,
     interface: usize,
+    term: C::Term,
     numbers: &Numbers,
     entries: &[Entry],
 ) -> Result<(), AllocError>
     requires { CanWrite width interface (rows_of rows.old.entries) numbers.now
         entries.now }
-    ensures written { IsWritten interface entries.now (rows_of rows.old.entries)
-        (rows_of rows.new.entries) result }
+    ensures made { IsMade C.blank_cell (C.cell_of term) width interface entries.now
+        (rows_of rows.old.entries) (rows_of rows.new.entries) result }
     ensures grid { IsGrid width (rows_of rows.new.entries) }
 {
     let mut row_numbers = [0; MOST_ENTRIES];
     grow_or_keep(alloc, rows, width, numbers, entries, &mut row_numbers)?;
-    write(rows, width, interface, &row_numbers, entries);
+    write(rows, width, interface, term, &row_numbers, entries);
     Ok(())
 }
 
@@ -184,7 +179,7 @@ fn add<S: BuildHasher>(
 /// they were. (Why so many arguments: DECISIONS.md.)
 pub(crate) fn add_new<S: BuildHasher>(
     alloc: Global,
-    rows: &mut Rows<S>,
+    rows: &mut Rows<Cell, S>,
     width: usize,
     interface: usize,
     numbers: &Numbers,
@@ -202,21 +197,21 @@ pub(crate) fn add_new<S: BuildHasher>(
     ensures allocates { OnErr result (brings ≡ true) }
 {
     if brings {
-        add(alloc, rows, width, interface, numbers, entries)
+        add(alloc, rows, width, interface, (), numbers, entries)
     } else {
         Ok(())
     }
 }
 
 /// Adds a row for each prefix of a plan.
-pub(crate) fn add_planned<S: BuildHasher>(
+pub(crate) fn add_planned<C: GridCell, S: BuildHasher>(
     alloc: Global,
-    rows: &mut Rows<S>,
+    rows: &mut Rows<C, S>,
     plan: &Plan,
 ) -> Result<(), AllocError>
     requires { rows.old.entries ≡ [] }
     ensures ok { OnOk result (rows_of rows.new.entries
-        ≡ planned_rows (length plan.now.interfaces) plan.now.prefixes) }
+        ≡ planned_rows C.blank_cell (length plan.now.interfaces) plan.now.prefixes) }
 {
     plan.lawful();
     for k in 0..plan.prefixes() {

@@ -19,4 +19,4 @@ returns g c p at =
     let number = number-listed (heads (rows_of es)) c.args.k p c.args.self.now.valid.differ at in
     let wide : length row.items ≡ length c.args.self.now.heard.items = row-width es c.args.k (length c.args.self.now.heard.items) row c.args.self.now.grid c.index.ensures in
     c.metric.ensures ∙ c.index-2.ensures ∙ get_or_default row.items c.args.interface c.index-2.result.now None (omega (arith, wide, c.requires.interface)) ∙ sym
-    (cell-at (rows_of es) p c.args.k c.args.interface row.items number (row-at es c.args.k row p c.index.ensures at))
+    (cell-at None (rows_of es) p c.args.k c.args.interface row.items number (row-at es c.args.k row p c.index.ensures at))

@@ -6,7 +6,7 @@ use Rattle.std.proofs.lemmas.Option.{slice_get_read, slice_get_within}
 use Rattle.rip_wire.specs.Prefix.{Block}
 use Rattle.rip_wire.specs.declared.entry.Entry.{Entry}
 use Rattle.rip_plan.specs.Network.{number_of_prefix}
-use Rattle.rip_table.specs.Rows.{Rows, heads, rows_of, with_rows}
+use Rattle.rip_table.specs.Rows.{heads, rows_of, with_rows}
 use Rattle.rip_table.proofs.PrefixListLemmas.{drop-more}
 use Rattle.rip_table.proofs.NumberLemmas.{number-here}
 use Rattle.rip_table.proofs.RowLemmas.{length-rows, with_row-front, with_row-keeps, with_row-longer}
@@ -48,18 +48,18 @@ loop-j-preserved g c =
     let rows = rows_of c.loop-j.rows.entries in
     let step = c.in_ok-row_numbers.ensures.ok in
     let kept : (q : Block) (k : ℕ) → number_of_prefix q (heads rows) ≡ Some k → number_of_prefix q (heads (rows_of c.row_at.new.rows.entries)) ≡ Some k =
-    λ q k h. ap (λ (r : Rows). number_of_prefix q (heads r)) step ∙ with_row-keeps c.args.width rows p q k h in
+    λ q k h. ap (λ r. number_of_prefix q (heads r)) step ∙ with_row-keeps g.C.GridCell.blank_cell c.args.width rows p q k h in
     let here = drop-more es c.loop-j.j c.index-entries-j.result at in
     let few : length c.args.rows.now.entries ≤ length rows = omega (arith, inv.longer, length-rows c.loop-j.rows.entries) in
     record {
-      told = ap (λ (r : Rows). with_rows c.args.width r (drop (c.loop-j.j + 1) es)) step ∙ ap (with_rows c.args.width rows) (sym here) ∙ inv.told;
+      told = ap (λ r. with_rows g.C.GridCell.blank_cell c.args.width r (drop (c.loop-j.j + 1) es)) step ∙ ap (with_rows g.C.GridCell.blank_cell c.args.width rows) (sym here) ∙ inv.told;
       kept = λ q k h. kept q k (inv.kept q k h);
       room = length-set c.loop-j.row_numbers c.loop-j.j c.in_ok-row_numbers.field-0 ∙ inv.room;
       row_numbers = placed (heads rows) (heads (rows_of c.row_at.new.rows.entries)) es c.loop-j.row_numbers c.loop-j.j c.in_ok-row_numbers.field-0 c.index-entries-j.result inv.room
           (omega (arith, c.loop-j-test.true, c.requires.few))
           kept inv.row_numbers at c.in_ok-row_numbers.ensures.number;
-      longer = omega (arith, few, with_row-longer c.args.width rows p, ap length step, length-rows c.row_at.new.rows.entries);
-      front = ap (take (length c.args.rows.now.entries)) step ∙ with_row-front (length c.args.rows.now.entries) c.args.width rows p few ∙ inv.front;
+      longer = omega (arith, few, with_row-longer g.C.GridCell.blank_cell c.args.width rows p, ap length step, length-rows c.row_at.new.rows.entries);
+      front = ap (take (length c.args.rows.now.entries)) step ∙ with_row-front g.C.GridCell.blank_cell (length c.args.rows.now.entries) c.args.width rows p few ∙ inv.front;
     }
 
 pub returns-clause-row_numbers : goal.returns-clause-row_numbers

@@ -8,7 +8,7 @@ use Rattle.rip_table.proofs.grid.rows.grow.Given as goal
 
 abbrev pub invariant-loop-j : goal.invariant-loop-j
 invariant-loop-j g l = record {
-  told : with_rows l.width (rows_of l.rows.entries) (drop l.j l.entries) ≡ with_rows l.width (rows_of l.fn.rows.entries) l.entries;
+  told : with_rows g.C.GridCell.blank_cell l.width (rows_of l.rows.entries) (drop l.j l.entries) ≡ with_rows g.C.GridCell.blank_cell l.width (rows_of l.fn.rows.entries) l.entries;
   kept : (p : Block) (k : ℕ) → number_of_prefix p (heads (rows_of l.fn.rows.entries)) ≡ Some k → number_of_prefix p (heads (rows_of l.rows.entries)) ≡ Some k;
   room : length l.row_numbers ≡ 25;
   row_numbers : (k : ℕ) (e : Entry) → k < l.j → slice_get l.entries k ≡ Some e → number_of_prefix e.prefix (heads (rows_of l.rows.entries)) ≡ Some (slice_index_or l.row_numbers k 0);

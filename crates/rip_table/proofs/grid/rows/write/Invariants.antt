@@ -6,5 +6,6 @@ abbrev pub invariant-loop-j : goal.invariant-loop-j
 invariant-loop-j g l = record {
   heads : heads (rows_of l.rows.entries) ≡ heads (rows_of l.fn.rows.entries);
   grid : IsGrid l.width (rows_of l.rows.entries);
-  cells : shown_after (cell (rows_of l.rows.entries)) l.interface (drop l.j l.entries) ≡ shown_after (cell (rows_of l.fn.rows.entries)) l.interface l.entries;
+  cells : shown_after (g.C.GridCell.cell_of l.term) (cell g.C.GridCell.blank_cell (rows_of l.rows.entries)) l.interface (drop l.j l.entries)
+      ≡ shown_after (g.C.GridCell.cell_of l.term) (cell g.C.GridCell.blank_cell (rows_of l.fn.rows.entries)) l.interface l.entries;
 }
