@@ -140,6 +140,16 @@ fn host(rt: &impl Abort, number: u32) -> Entry {
     }
 }
 
+/// Tells a table of 2,047 hosts.
+fn tell_hosts<T: WindowTable>(rt: &impl Abort, plan: &Plan, table: &mut T)
+    requires { Fits plan.now (shown (T.window table.old)) }
+    ensures { Fits plan.now (shown (T.window table.new)) }
+{
+    for number in 1..2_048u32 {
+        assert!(rt; tell(rt, plan, table, 0, &[host(rt, number)]).is_ok());
+    }
+}
+
 /// A table has room for 2,048 prefixes, and again where they are forgotten.
 #[test]
 fn a_full_table_has_room_again(rt: HostRuntime) {
@@ -148,15 +158,13 @@ fn a_full_table_has_room_again(rt: HostRuntime) {
     let Ok(mut table) = GridWindow::with_hasher(rt.alloc(), &plan, hasher) else {
         panic!(rt; "no table");
     };
-    for number in 1..2_048u32 {
-        assert!(rt; tell(&rt, &plan, &mut table, 0, &[host(&rt, number)]).is_ok());
-    }
+    tell_hosts(&rt, &plan, &mut table);
     assert!(rt; table.prefix_count() == MOST_PREFIXES);
     let more = [host(&rt, 5_000)];
     assert!(rt; tell(&rt, &plan, &mut table, 0, &more) == Err(TableError::TooManyPrefixes));
-    for _ in 0..3 {
-        table.pass();
-    }
+    table.pass();
+    table.pass();
+    table.pass();
     assert!(rt; tell(&rt, &plan, &mut table, 0, &more) == Err(TableError::TooManyPrefixes));
     table.forget(&plan);
     assert!(rt; tell(&rt, &plan, &mut table, 0, &more).is_ok());
