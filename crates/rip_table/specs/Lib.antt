@@ -9,6 +9,8 @@ pub mod Window
 pub mod WindowRows
 pub mod WindowFacts
 pub mod Remembered
+pub mod Scenes
+pub mod SceneViews
 pub mod LogJoin
 pub mod Events
 pub mod CollectsAll
