@@ -3,6 +3,7 @@ pub mod HexLemmas
 pub mod LoopLemmas
 pub mod UnsettledLemmas
 pub mod VerdictLemmas
+pub mod WatchLemmas
 pub mod EndLemmas
 pub mod ReportLemmas
 pub mod StopLemmas

@@ -31,3 +31,4 @@ pub mod LineTimes
 pub mod CaptureText
 pub mod CaptureLogs
 pub mod CapturePackets
+pub mod WatchText

@@ -3,8 +3,9 @@ use Rattle.std.specs.Prelude.{ℕ, List, ◌++◌, codes, decimal}
 use Rattle.rip_wire.specs.Prefix.{Block, prefix_text}
 use Rattle.rip_log.specs.declared.error.LogCode.{LogCode}
 use Rattle.rip_log.specs.declared.error.LogCode.TheVariants as log
-use Rattle.rip_table.specs.declared.error.CollectCause.{CollectCause}
-use Rattle.rip_table.specs.declared.error.CollectCause.TheVariants.{Log, Table, UnknownSender}
+use Rattle.rip_table.specs.Scenes.{line_cause}
+use Rattle.rip_table.specs.declared.scene.LineCause.{LineCause}
+use Rattle.rip_table.specs.declared.scene.LineCause.TheVariants.{Log, Table, UnknownSender}
 use Rattle.rip_table.specs.declared.error.CollectError.{CollectError}
 use Rattle.rip_table.specs.declared.error.TableError.{TableError}
 use Rattle.rip_table.specs.declared.error.TableError.TheVariants as table
@@ -48,11 +49,14 @@ abbrev pub at_line : List ℕ → ℕ → List ℕ
 at_line word n = numbered word n ++ codes ": "
 
 -- a line of the log and what refuses it: the log's reader, or the table
-abbrev pub cause_text : ℕ → CollectCause → List ℕ
-cause_text n (Log e) = at_line (codes "log line ") n ++ log_code_text e.code
+abbrev pub cause_text : ℕ → LineCause → List ℕ
+cause_text n (Log code) = at_line (codes "log line ") n ++ log_code_text code
 cause_text n (Table e) = at_line (codes "table line ") n ++ table_error_text e
 cause_text n UnknownSender = at_line (codes "table line ") n ++ codes "5 UnknownSender"
 
+-- `refused: log line 7: 5 Hex`
+abbrev pub refusal_line : ℕ → LineCause → List ℕ
+refusal_line n cause = line (codes "refused: " ++ cause_text n cause)
+
 abbrev pub refused_log : CollectError → Written
-refused_log e =
-    record { text = line (codes "refused: " ++ cause_text e.line e.cause); status = Refused }
+refused_log e = record { text = refusal_line e.line (line_cause e.cause); status = Refused }

@@ -127,7 +127,7 @@ fn places_of<T: Table>(
 }
 
 /// Judges a table and adds the verdict.
-fn add_audit<T: Table, K: Sink>(
+pub(crate) fn add_audit<T: Table, K: Sink>(
     alloc: Global,
     out: &mut Out<K>,
     plan: &Plan,

@@ -25,6 +25,7 @@ mod seen;
 mod status;
 mod table;
 mod texts;
+mod watch;
 mod whatif;
 
 pub use audit::run_audit;

@@ -6,13 +6,13 @@ mod wire;
 ghost use Rattle.std.specs.Prelude.{◌≡◌, ◌≢◌, Err, IfOk};
 ghost use Rattle.rip_report.specs.Outs.{Adds};
 ghost use Rattle.rip_report.specs.Sent.{Prints};
-ghost use Rattle.rip_report.specs.RefusalText.{at_line, cause_text, change_text, log_code_text, prefix_part, refused_log, table_error_text};
+ghost use Rattle.rip_report.specs.RefusalText.{at_line, cause_text, change_text, log_code_text, prefix_part, refusal_line, refused_log, table_error_text};
 
 use crate::output::Out;
 use crate::status::{RunError, Status};
 pub(crate) use plan::refuse_plan;
 use rip_log::{LogCode, Sink};
-use rip_table::{CollectCause, CollectError, TableError};
+use rip_table::{CollectError, LineCause, TableError};
 use rip_wire::{Metric, Prefix};
 pub(crate) use wire::push_wire_fault;
 
@@ -78,7 +78,7 @@ pub(crate) fn push_table_error<K: Sink>(out: &mut Out<K>, error: TableError)
 }
 
 /// Adds a line of the log, after its word.
-fn push_line<K: Sink>(out: &mut Out<K>, word: &str, line: u32)
+fn push_line<K: Sink>(out: &mut Out<K>, word: &str, line: u64)
     ensures { Adds out.old out.new (at_line word.now line) }
 {
     out.push_numbered(word, line as usize);
@@ -86,19 +86,19 @@ fn push_line<K: Sink>(out: &mut Out<K>, word: &str, line: u32)
 }
 
 /// Adds a line of the log and what refuses it.
-fn push_cause<K: Sink>(out: &mut Out<K>, line: u32, cause: CollectCause)
+fn push_cause<K: Sink>(out: &mut Out<K>, line: u64, cause: LineCause)
     ensures { Adds out.old out.new (cause_text line cause) }
 {
     match cause {
-        CollectCause::Log(error) => {
+        LineCause::Log(code) => {
             push_line(out, "log line ", line);
-            push_log_code(out, error.code);
+            push_log_code(out, code);
         }
-        CollectCause::Table(error) => {
+        LineCause::Table(error) => {
             push_line(out, "table line ", line);
             push_table_error(out, error);
         }
-        CollectCause::UnknownSender => {
+        LineCause::UnknownSender => {
             push_line(out, "table line ", line);
             out.push("5 UnknownSender");
         }
@@ -106,11 +106,11 @@ fn push_cause<K: Sink>(out: &mut Out<K>, line: u32, cause: CollectCause)
 }
 
 /// Adds the line of a refusal.
-fn push_refusal_line<K: Sink>(out: &mut Out<K>, error: CollectError)
-    ensures { Adds out.old out.new (refused_log error).text }
+pub(crate) fn push_refusal_line<K: Sink>(out: &mut Out<K>, line: u64, cause: LineCause)
+    ensures { Adds out.old out.new (refusal_line line cause) }
 {
     out.push("refused: ");
-    push_cause(out, error.line, error.cause);
+    push_cause(out, line, cause);
     out.end();
 }
 
@@ -121,6 +121,6 @@ pub(crate) fn refuse_log<K: Sink>(error: CollectError, out: K) -> (K, Result<Sta
     ensures read { result.1 ≢ Err RunError.Read }
 {
     let mut text = Out::new(out);
-    push_refusal_line(&mut text, error);
+    push_refusal_line(&mut text, u64::from(error.line), LineCause::of(error.cause));
     text.finish_with(Ok(Status::Refused))
 }

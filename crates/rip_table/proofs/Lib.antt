@@ -17,6 +17,7 @@ pub mod FrontLemmas
 pub mod WindowLemmas
 pub mod ForgetLemmas
 pub mod RememberLemmas
+pub mod LastingLemmas
 pub mod HopLemmas
 pub mod MakesLemmas
 pub mod MetricLemmas

@@ -1,6 +1,7 @@
 -- What is to be seen of a network in a second, by the lines of a log with times up to it.
-use Rattle.std.specs.Prelude.{ℕ, ◌-◌, nat_lt, if◌then◌else◌, Option, Some, None, Result, Ok, Err}
+use Rattle.std.specs.Prelude.{◌≡◌, ℕ, ◌-◌, ◌≤◌, nat_lt, if◌then◌else◌, Option, Some, None, Result, Ok, Err}
 use Rattle.rip_wire.specs.Message.{Message, request, response}
+use Rattle.rip_wire.specs.Prefix.{Block}
 use Rattle.rip_plan.specs.Network.{Network}
 use Rattle.rip_log.specs.Lines.{Capture}
 use Rattle.rip_log.specs.TimedCall.{bad_said, timed_capture}
@@ -8,7 +9,9 @@ use Rattle.rip_log.specs.TimedText.{TimedSaid, captured, bad, untimed}
 use Rattle.rip_log.specs.declared.timed.reader.TimedLine.{TimedLine}
 use Rattle.rip_log.specs.declared.timed.reader.TimedLine.TheVariants.{Skipped, Record, Bad}
 use Rattle.rip_table.specs.Joined.{interface_of, message_of_capture}
-use Rattle.rip_table.specs.Window.{Window, forgotten, new_window, passed, told_message}
+use Rattle.rip_table.specs.Window.{Window, Word, forgotten, new_window, passed, told_message}
+use Rattle.rip_table.specs.declared.error.CollectCause.{CollectCause}
+use Rattle.rip_table.specs.declared.error.CollectCause.TheVariants as causes
 use Rattle.rip_table.specs.declared.error.TableError.{TableError}
 use Rattle.rip_table.specs.declared.scene.Episode.{Episode}
 use Rattle.rip_table.specs.declared.scene.LineCause.{LineCause}
@@ -25,6 +28,12 @@ abbrev pub new_view : Network → View
 new_view n = record { window = new_window n; episode = None }
 
 -- ---- a line
+
+-- why a line refuses a log, without its number
+abbrev pub line_cause : CollectCause → LineCause
+line_cause (causes.Log e) = Log e.code
+line_cause (causes.Table e) = Table e
+line_cause causes.UnknownSender = UnknownSender
 
 -- an episode begins with its first refusal, and lasts for so many seconds from each
 abbrev pub first_of : LineRefusal → Option Episode → LineRefusal
@@ -81,3 +90,10 @@ passed_view v = record { window = passed v.window; episode = passed_episode v.ep
 -- at the end of the second
 abbrev pub closed_view : Network → View → View
 closed_view n v = record v { window = forgotten n v.window }
+
+-- nothing in it lasts for more than so many seconds
+pub record LastsFor (seconds : ℕ) (v : View) : Type 0 where
+  pub words : (i : ℕ) (p : Block) (x : Word) → v.window.words i p ≡ Some x
+      → (1 ≤ x.left) × (x.left ≤ seconds)
+  pub heard : (i : ℕ) → v.window.heard i ≤ seconds
+  pub episode : (e : Episode) → v.episode ≡ Some e → (1 ≤ e.left) × (e.left ≤ seconds)

@@ -17,7 +17,9 @@ ghost use Rattle.rip_table.specs.Firsts.{IsUpToRefusal};
 ghost use Rattle.rip_table.specs.Tallies.{counts_of};
 ghost use Rattle.rip_table.specs.LogJoin.{AreJoined, HasBadEntry, IsFirstRefused, IsJoin, IsJoined, IsListed, IsOutcome, IsResponse};
 ghost use Rattle.rip_table.specs.Window.{Window, forgotten, new_window, passed, shown, told_message};
+ghost use Rattle.rip_log.specs.TimedText.{TimedSaid};
 ghost use Rattle.rip_table.specs.Remembered.{Remembers, Taken};
+ghost use Rattle.rip_table.specs.Scenes.{LastsFor, View, after_said, closed_view, new_view, passed_view};
 ghost use Rattle.rip_table.specs.declared.error.CollectCause.{CollectCause};
 ghost use Rattle.rip_table.specs.declared.error.CollectCause.TheVariants.{Table};
 ghost use Rattle.rip_table.specs.declared.error.TableError.{TableError};
@@ -172,6 +174,20 @@ pub fn windows()
 {
     laws::response_fields();
 }
+
+/// Nothing in a scene lasts for longer than a window: so many seconds after the last line nothing is
+/// left, and each later second is as the one before.
+pub fn lasting_scenes()
+    ensures new { (n : Network) (seconds : ℕ) → LastsFor seconds (new_view n) }
+    ensures said { (n : Network) (seconds line : ℕ) (said : TimedSaid) (v : View) → 1 ≤ seconds →
+        LastsFor seconds v → LastsFor seconds (after_said n seconds line said v) }
+    ensures passed { (seconds : ℕ) (v : View) →
+        LastsFor (seconds + 1) v → LastsFor seconds (passed_view v) }
+    ensures closed { (n : Network) (seconds : ℕ) (v : View) →
+        LastsFor seconds v → LastsFor seconds (closed_view n v) }
+    ensures over { (v : View) → LastsFor 0 v → passed_view v ≡ v }
+    ensures once { (n : Network) (v : View) → closed_view n (closed_view n v) ≡ closed_view n v }
+{}
 
 /// The interface that is found for a link and a sender is the one that has the address there.
 pub fn found_interfaces()

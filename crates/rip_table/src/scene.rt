@@ -8,7 +8,7 @@ ghost use Rattle.rip_table.specs.State.{Fits};
 ghost use Rattle.rip_table.specs.Window.{shown};
 ghost use Rattle.rip_table.specs.Scenes.{after_line, after_said, closed_view, passed_view, with_refusal};
 
-use crate::error::TableError;
+use crate::error::{CollectCause, TableError};
 use crate::recent::Recent;
 use crate::window_length::WindowLength;
 use crate::window_table::WindowTable;
@@ -25,6 +25,21 @@ pub enum LineCause {
     Table(TableError),
     /// A response whose link and sender no interface of the plan has.
     UnknownSender,
+}
+
+impl LineCause {
+    ghost use Rattle.rip_table.specs.Scenes.{line_cause};
+
+    /// The cause for which a log is refused, without the number of its line.
+    pub fn of(cause: CollectCause) -> LineCause
+        ensures { result ≡ line_cause cause }
+    {
+        match cause {
+            CollectCause::Log(error) => LineCause::Log(error.code),
+            CollectCause::Table(error) => LineCause::Table(error),
+            CollectCause::UnknownSender => LineCause::UnknownSender,
+        }
+    }
 }
 
 /// A line that is refused.

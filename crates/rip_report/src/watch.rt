@@ -1,0 +1,104 @@
+//! The command `watch`: the verdict on a network in each second of a log with times.
+
+ghost use Rattle.std.specs.Prelude.{◌≡◌, ◌≢◌, ◌≤◌, IfOk, OnErr};
+ghost use Rattle.rip_log.specs.declared.limits.TheConstants.{MOST_SECONDS};
+ghost use Rattle.rip_table.specs.State.{Fits};
+ghost use Rattle.rip_table.specs.Window.{shown};
+ghost use Rattle.rip_table.specs.Scenes.{closed_view};
+ghost use Rattle.rip_table.specs.SceneViews.{view_of};
+ghost use Rattle.rip_report.specs.AuditText.{IsJudged};
+ghost use Rattle.rip_report.specs.Finished.{AddsWritten};
+ghost use Rattle.rip_report.specs.Outs.{AddsOne};
+ghost use Rattle.rip_report.specs.WatchText.{IsShot, SceneText};
+
+use crate::audit::add_audit;
+use crate::output::Out;
+use crate::refusal::push_refusal_line;
+use crate::status::Status;
+use rip_log::{Failed, IntoWrite, Sink, write_second};
+use rip_plan::Plan;
+use rip_table::{Scene, Table, WindowTable};
+use std::alloc::{AllocError, Global};
+
+/// Adds the verdict of a scene: the line of the first refusal, or the verdict on what is shown.
+fn add_scene<T: WindowTable, K: Sink>(
+    alloc: Global,
+    out: &mut Out<K>,
+    plan: &Plan,
+    scene: &Scene<T>,
+) -> Result<Status, AllocError>
+    requires { Fits plan.now (shown (view_of T.window scene.now).window) }
+    ensures adds { AddsWritten out.old out.new result
+        (SceneText plan.now (view_of T.window scene.now)) }
+    ensures judged { IfOk result (λ status. status ≢ Status.Refused →
+        IsJudged plan.now (shown (view_of T.window scene.now).window) status) }
+{
+    match scene.refusal() {
+        Some(refusal) => {
+            push_refusal_line(out, refusal.line, refusal.cause);
+            Ok(Status::Refused)
+        }
+        None => add_audit(alloc, out, plan, scene.table(), false),
+    }
+}
+
+/// The text of the verdict of a scene, and its status.
+fn scene_text<T: WindowTable>(
+    alloc: Global,
+    plan: &Plan,
+    scene: &Scene<T>,
+) -> Result<(Vec<u8>, Status), AllocError>
+    requires { Fits plan.now (shown (view_of T.window scene.now).window) }
+    ensures text { IfOk result (λ made. SceneText plan.now (view_of T.window scene.now)
+        (record { text = made.0.items; status = made.1 })) }
+    ensures judged { IfOk result (λ made. made.1 ≢ Status.Refused →
+        IsJudged plan.now (shown (view_of T.window scene.now).window) made.1) }
+{
+    let mut text = Out::new(IntoWrite::new(Vec::new(alloc)));
+    let status = add_scene(alloc, &mut text, plan, scene)?;
+    match text.finish() {
+        (sink, Ok(())) => Ok((sink.into_writer(), status)),
+        (_, Err(Failed)) => Err(AllocError),
+    }
+}
+
+/// How far a film has come: the scene of the present second, and the verdict of the second before.
+#[derive(Drop)]
+struct Film<T> {
+    scene: Scene<T>,
+    second: u64,
+    last: Vec<u8>,
+}
+
+impl<T: WindowTable> Film<T> {
+    /// Ends the present second: prints its time and its verdict, at once, unless the verdict is that
+    /// of the second before.
+    fn show<K: Sink>(
+        &mut self,
+        alloc: Global,
+        plan: &Plan,
+        out: &mut Out<K>,
+    ) -> Result<Status, AllocError>
+        requires fits { Fits plan.now (shown (view_of T.window self.old.scene).window) }
+        requires second { self.old.second ≤ MOST_SECONDS }
+        ensures shot { IfOk result (λ status. AddsOne out.old out.new
+            (IsShot plan.now self.old.second (view_of T.window self.new.scene) self.old.last.items
+            (record { text = self.new.last.items; status = status }))) }
+        ensures nothing { OnErr result (out.new ≡ out.old) }
+        ensures view { view_of T.window self.new.scene
+            ≡ closed_view plan.now (view_of T.window self.old.scene) }
+        ensures second { self.new.second ≡ self.old.second }
+        ensures fits { Fits plan.now (shown (view_of T.window self.new.scene).window) }
+    {
+        self.scene.close(plan);
+        let (text, status) = scene_text(alloc, plan, &self.scene)?;
+        if text.as_slice() != self.last.as_slice() {
+            out.push_bytes(&write_second(self.second));
+            out.push(" ");
+            out.push_bytes(&text);
+            out.send();
+            self.last = text;
+        }
+        Ok(status)
+    }
+}
