@@ -1,15 +1,15 @@
 //! The command `watch`: the verdict on a network in each second of a log with times.
 
-ghost use Rattle.std.specs.Prelude.{◌≡◌, ◌≢◌, ◌≤◌, IfOk, OnErr};
+ghost use Rattle.std.specs.Prelude.{◌≡◌, ◌≢◌, ◌+◌, ◌-◌, ◌≤◌, false, true, IfOk, OnErr, Ok};
 ghost use Rattle.rip_log.specs.declared.limits.TheConstants.{MOST_SECONDS};
 ghost use Rattle.rip_table.specs.State.{Fits};
 ghost use Rattle.rip_table.specs.Window.{shown};
-ghost use Rattle.rip_table.specs.Scenes.{closed_view};
+ghost use Rattle.rip_table.specs.Scenes.{LastsFor, closed_view};
 ghost use Rattle.rip_table.specs.SceneViews.{view_of};
 ghost use Rattle.rip_report.specs.AuditText.{IsJudged};
 ghost use Rattle.rip_report.specs.Finished.{AddsWritten};
 ghost use Rattle.rip_report.specs.Outs.{AddsOne};
-ghost use Rattle.rip_report.specs.WatchText.{IsShot, SceneText};
+ghost use Rattle.rip_report.specs.WatchText.{IsShot, QuietBegun, QuietFilm, SceneText, after_quiet};
 
 use crate::audit::add_audit;
 use crate::output::Out;
@@ -17,7 +17,8 @@ use crate::refusal::push_refusal_line;
 use crate::status::Status;
 use rip_log::{Failed, IntoWrite, Sink, write_second};
 use rip_plan::Plan;
-use rip_table::{Scene, Table, WindowTable};
+use rip_table::laws::lasting_scenes;
+use rip_table::{Scene, Table, WindowLength, WindowTable};
 use std::alloc::{AllocError, Global};
 
 /// Adds the verdict of a scene: the line of the first refusal, or the verdict on what is shown.
@@ -62,6 +63,23 @@ fn scene_text<T: WindowTable>(
     }
 }
 
+/// How to watch.
+#[derive(Clone, Copy, Debug)]
+pub struct Watching {
+    /// For how long what an interface says is shown.
+    pub length: WindowLength,
+    /// Whether the first settled second ends it.
+    pub until_settled: bool,
+}
+
+/// Whether a film ends with this status.
+fn is_end(until_settled: bool, status: Status) -> bool
+    ensures ends { result ≡ true → (until_settled ≡ true) × (status ≡ Status.Settled) }
+    ensures goes_on { result ≡ false → until_settled ≡ true → status ≢ Status.Settled }
+{
+    until_settled && status == Status::Settled
+}
+
 /// How far a film has come: the scene of the present second, and the verdict of the second before.
 #[derive(Drop)]
 struct Film<T> {
@@ -100,5 +118,74 @@ impl<T: WindowTable> Film<T> {
             self.last = text;
         }
         Ok(status)
+    }
+
+    /// Lets so many seconds pass in which no line comes. Where it is to end at a settled second, it
+    /// stops there, and answers that it did.
+    fn pass_quiet<K: Sink>(
+        &mut self,
+        alloc: Global,
+        plan: &Plan,
+        until_settled: bool,
+        count: u64,
+        out: &mut Out<K>,
+    ) -> Result<bool, AllocError>
+        requires fits { Fits plan.now (shown (view_of T.window self.old.scene).window) }
+        requires second { self.old.second + count ≤ MOST_SECONDS + 1 }
+        ensures film { IfOk result (λ settled. AddsOne out.old out.new (QuietFilm plan.now
+            until_settled self.old.last.items self.old.second (view_of T.window self.old.scene)
+            count settled self.new.last.items)) }
+        ensures begun { OnErr result (AddsOne out.old out.new (QuietBegun plan.now until_settled
+            self.old.last.items self.old.second (view_of T.window self.old.scene) count)) }
+        ensures view { result ≡ Ok false → view_of T.window self.new.scene
+            ≡ after_quiet plan.now count (view_of T.window self.old.scene) }
+        ensures second { result ≡ Ok false → self.new.second ≡ self.old.second + count }
+        ensures fits { Fits plan.now (shown (view_of T.window self.new.scene).window) }
+    {
+        for _ in 0..count {
+            let status = self.show(alloc, plan, out)?;
+            if is_end(until_settled, status) {
+                return Ok(true);
+            }
+            self.scene.pass();
+            self.second += 1;
+        }
+        Ok(false)
+    }
+
+    /// Goes on to a second, where no line came since the present one. Of the seconds before it only
+    /// those of one window are judged, and one more: by then nothing is left, and nothing changes.
+    fn advance<K: Sink>(
+        &mut self,
+        alloc: Global,
+        plan: &Plan,
+        watching: Watching,
+        to: u64,
+        out: &mut Out<K>,
+    ) -> Result<bool, AllocError>
+        requires fits { Fits plan.now (shown (view_of T.window self.old.scene).window) }
+        requires second { self.old.second ≤ to }
+        requires most { to ≤ MOST_SECONDS }
+        requires lasts { LastsFor watching.length (view_of T.window self.old.scene) }
+        ensures film { IfOk result (λ settled. AddsOne out.old out.new (QuietFilm plan.now
+            watching.until_settled self.old.last.items self.old.second
+            (view_of T.window self.old.scene) (to - self.old.second) settled
+            self.new.last.items)) }
+        ensures begun { OnErr result (AddsOne out.old out.new (QuietBegun plan.now
+            watching.until_settled self.old.last.items self.old.second
+            (view_of T.window self.old.scene) (to - self.old.second))) }
+        ensures view { result ≡ Ok false → view_of T.window self.new.scene
+            ≡ after_quiet plan.now (to - self.old.second) (view_of T.window self.old.scene) }
+        ensures second { result ≡ Ok false → self.new.second ≡ to }
+        ensures fits { Fits plan.now (shown (view_of T.window self.new.scene).window) }
+    {
+        lasting_scenes();
+        let quiet = to - self.second;
+        let judged = quiet.min(u64::from(watching.length.get()) + 1);
+        let settled = self.pass_quiet(alloc, plan, watching.until_settled, judged, out)?;
+        if !settled {
+            self.second = to;
+        }
+        Ok(settled)
     }
 }
