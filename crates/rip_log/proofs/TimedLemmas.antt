@@ -9,7 +9,7 @@ use Rattle.rip_log.specs.Lines.{Capture, lines_of, three_fields}
 use Rattle.rip_log.specs.LogText.{AreThreeJudged, HasFields, IsSkipped, SaysNothing}
 use Rattle.rip_log.specs.TimedParts.{AreTimed}
 use Rattle.rip_log.specs.TimedCall.{TakesTimed, TimedCall, timed_lines, timed_text}
-use Rattle.rip_log.specs.TimedText.{HasNoTime, HasTimed, IsTimedLine, TimedSaid, untimed}
+use Rattle.rip_log.specs.TimedText.{HasNoTime, HasTimed, IsEarly, IsTimedLine, TimedSaid, untimed}
 use Rattle.rip_log.specs.Wholes.{rest_of}
 use Rattle.rip_log.specs.declared.error.LogCode.{LogCode}
 use Rattle.rip_log.specs.declared.error.LogCode.TheVariants.{LongLine}
@@ -95,6 +95,7 @@ module _ {R X Y E : Type 0} (given : R → List ℕ) (coming : R → Option (Lis
     marks = h.marks;
     behind = h.behind;
     numbered = tt;
+    early = tt;
     over = λ _. h.over refl;
     went = h.went;
     unpulled = h.unpulled;
@@ -109,6 +110,7 @@ module _ {R X Y E : Type 0} (given : R → List ℕ) (coming : R → Option (Lis
     marks = h.marks;
     behind = h.behind;
     numbered = numbered;
+    early = subst IsEarly (sym same) h.early;
     over = λ e. cc e;
     went = h.went;
     unpulled = h.unpulled;

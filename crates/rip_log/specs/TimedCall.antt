@@ -8,7 +8,7 @@ use Rattle.rip_log.specs.Held.{ended_lines}
 use Rattle.rip_log.specs.Lines.{Capture}
 use Rattle.rip_log.specs.Spans.{IsWithin, slice_of}
 use Rattle.rip_log.specs.TimedParts.{AreTimedParts, timed_said}
-use Rattle.rip_log.specs.TimedText.{IsTimedLine, TimedSaid, captured, bad, untimed}
+use Rattle.rip_log.specs.TimedText.{IsEarly, IsTimedLine, TimedSaid, captured, bad, untimed}
 use Rattle.rip_log.specs.Wholes.{OfWhole, Went}
 use Rattle.rip_log.specs.declared.error.LogCode.{LogCode}
 use Rattle.rip_log.specs.declared.error.LogCode.TheVariants.{LongLine}
@@ -111,6 +111,8 @@ pub record TimedCall {R X E : Type 0} (given : R → List ℕ) (coming : R → O
   -- a line that is not skipped has the number of the last line behind the reader
   pub numbered : IfOk result (λ found. IfSome found (λ x. IfSome (number x) (λ n.
       n ≡ timed_lines new)))
+  -- its time, if it has one, is of the years to 9999
+  pub early : IfOk result (λ found. IfSome found (λ x. IsEarly (view x)))
   -- None only where the source has come to its end
   pub over : result ≡ Ok None → IsTimedOver at_end new
   -- the source went on; it stays as it is past its end, and where the line feed of the next line

@@ -1,5 +1,5 @@
 -- Where the parts of a line with a time lie, and what they say.
-use Rattle.std.specs.Prelude.{◌≡◌, ◌<◌, ◌⊎◌, ℕ, true, false, List, [], ◌∷◌, length, Option, Some, None}
+use Rattle.std.specs.Prelude.{◌≡◌, ◌<◌, ◌≤◌, ◌⊎◌, ℕ, true, false, List, [], ◌∷◌, length, Option, Some, None}
 use Rattle.rip_log.specs.Codes.{code_of}
 use Rattle.rip_log.specs.Fields.{fields_of, is_comment}
 use Rattle.rip_log.specs.Parts.{AreParts, capture_of_parts}
@@ -7,6 +7,7 @@ use Rattle.rip_log.specs.Spans.{IsWithin, slice_of}
 use Rattle.rip_log.specs.TimedText.{TimedSaid, captured, bad, untimed}
 use Rattle.rip_log.specs.Times.{IsTimeText}
 use Rattle.rip_log.specs.declared.error.LogCode.TheVariants.{Fields}
+use Rattle.rip_log.specs.declared.limits.TheConstants.{MOST_MICROS}
 use Rattle.rip_log.specs.declared.timed.fields.TimedFields.{TimedFields}
 use Rattle.rip_log.specs.declared.timed.fields.TimedFields.TheVariants as split
 use Rattle.rip_log.specs.declared.timed.line.Judged.{Judged}
@@ -40,3 +41,13 @@ timed_said line room (Bad micros why) = Some (bad micros (code_of why))
 abbrev pub AreTimedParts : List ℕ → List ℕ → Judged → Type 0
 AreTimedParts line room (Record micros parts) = AreParts line room parts
 AreTimedParts line room other = Unit {0}
+
+-- the time that was found, if there is one, is of the years to 9999
+abbrev pub IsEarlySplit : TimedFields → Type 0
+IsEarlySplit (split.Four micros link sender digits) = micros ≤ MOST_MICROS
+IsEarlySplit other = Unit {0}
+
+abbrev pub IsEarlyJudged : Judged → Type 0
+IsEarlyJudged (Record micros parts) = micros ≤ MOST_MICROS
+IsEarlyJudged (Bad micros why) = micros ≤ MOST_MICROS
+IsEarlyJudged other = Unit {0}

@@ -1,11 +1,11 @@
 -- What the lines of a log with times are, in the words of its format.
-use Rattle.std.specs.Prelude.{ℕ, ◌<◌, List, [], ◌∷◌, length, Option, Some, None}
+use Rattle.std.specs.Prelude.{ℕ, ◌<◌, ◌≤◌, List, [], ◌∷◌, length, Option, Some, None}
 use Rattle.rip_log.specs.Lines.{Capture}
 use Rattle.rip_log.specs.LogText.{BadBy, HasFields, IsSkipped, RecordBy, SaysNothing}
 use Rattle.rip_log.specs.Times.{IsTimeText}
 use Rattle.rip_log.specs.declared.error.LogCode.{LogCode}
 use Rattle.rip_log.specs.declared.error.LogCode.TheVariants.{LongLine, Fields}
-use Rattle.rip_log.specs.declared.limits.TheConstants.{MOST_LINE_BYTES}
+use Rattle.rip_log.specs.declared.limits.TheConstants.{MOST_LINE_BYTES, MOST_MICROS}
 
 -- a line of four fields: the text of a time, and three more
 pub record HasTimed (line : List ℕ) (micros : ℕ) (link sender digits : List ℕ) : Type 0 where
@@ -39,3 +39,10 @@ SaysTimed line (untimed other) = ⊥
 abbrev pub IsTimedLine : List ℕ → Option TimedSaid → Type 0
 IsTimedLine line None = IsSkipped line
 IsTimedLine line (Some said) = SaysTimed line said
+
+-- the time of what a line says, if it has one, is of the years to 9999
+abbrev pub IsEarly : Option TimedSaid → Type 0
+IsEarly None = Unit {0}
+IsEarly (Some (captured micros capture)) = micros ≤ MOST_MICROS
+IsEarly (Some (bad micros code)) = micros ≤ MOST_MICROS
+IsEarly (Some (untimed code)) = Unit {0}

@@ -1,11 +1,15 @@
 -- What the verdict of a second is.
-use Rattle.std.proofs.Common.{◌≡◌, ◌≢◌, ◌∙◌, ◌+◌, ◌-◌, ◌++◌, min, nat_lt, [], ◌∷◌, ℕ, zero, suc, Bool, true, false, inl, inr, ◌⊎◌, List, Option, Some, None, refl, sym, ap, subst, append_assoc, append-nil, arith}
+use Rattle.std.proofs.Common.{◌≡◌, ◌≢◌, ◌∙◌, ◌+◌, ◌-◌, ◌≤◌, ◌++◌, min, nat_lt, [], ◌∷◌, ℕ, zero, suc, Bool, true, false, inl, inr, ◌⊎◌, List, Option, Some, None, refl, sym, ap, subst, append_assoc, append-nil, arith}
 use Rattle.std.specs.Prelude.{codes, option_map}
 use Rattle.std.proofs.lemmas.Bool.{ltb-true, ltb-false}
+use Rattle.rip_log.specs.TimedCall.{bad_said, timed_capture}
+use Rattle.rip_log.specs.TimedText.{TimedSaid, captured}
+use Rattle.rip_log.specs.declared.timed.reader.TimedLine.{TimedLine}
+use Rattle.rip_log.specs.declared.timed.reader.TimedLine.TheVariants.{Bad, Record, Skipped}
 use Rattle.rip_log.specs.Times.{IsSecondText}
 use Rattle.rip_plan.specs.Network.{Network}
 use Rattle.rip_table.specs.State.{State}
-use Rattle.rip_table.specs.Scenes.{LastsFor, View, closed_view, passed_view}
+use Rattle.rip_table.specs.Scenes.{LastsFor, View, after_line, after_said, closed_view, passed_view}
 use Rattle.rip_table.specs.Window.{shown}
 use Rattle.rip_table.specs.declared.scene.Episode.{Episode}
 use Rattle.rip_table.specs.declared.scene.LineRefusal.{LineRefusal}
@@ -113,7 +117,7 @@ pub film_settled : {n : Network} {until : Bool} {last mid text more : List ℕ} 
 film_settled {n = n} {last = last} {text = text} {more = more} second k v {w = w} film is shot settled = (
   film.0,
   subst (λ (xs : List (ℕ × View)). Shots n last xs (text ++ more) w.text (film.0 ++ Settled ∷ [])) (sym (quiet_more n k second v))
-  (subst (λ (s : Status). Shots n last (quiet n k second v ++ (second + k, closed_view n (after_quiet n k v)) ∷ []) (text ++ more) w.text (film.0 ++ s ∷ [])) settled (shots_then film.1 (shots_one shot))),
+      (subst (λ (s : Status). Shots n last (quiet n k second v ++ (second + k, closed_view n (after_quiet n k v)) ∷ []) (text ++ more) w.text (film.0 ++ s ∷ [])) settled (shots_then film.1 (shots_one shot))),
   film.2 is,
 )
 
@@ -164,11 +168,10 @@ still_shots n (suc k) second v w still verdict =
       same = λ is. refl;
       other = λ apart. absurd (apart refl);
     } in
-    let later : quiet n k (second + 1) v ≡ quiet n k (second + 1) (passed_view (closed_view n v)) = ap (quiet n k (second + 1)) (sym (ap passed_view still.closes ∙ still.passes)) in
-    (
+    let later : quiet n k (second + 1) v ≡ quiet n k (second + 1) (passed_view (closed_view n v)) = ap (quiet n k (second + 1)) (sym (ap passed_view still.closes ∙ still.passes)) in (
       w.status ∷ rest.0,
       Shots.one w.text [] [] w.text second (closed_view n v) w (quiet n k (second + 1) (passed_view (closed_view n v))) rest.0 shot
-      (subst (λ (xs : List (ℕ × View)). Shots n w.text xs [] w.text rest.0) later rest.1),
+          (subst (λ (xs : List (ℕ × View)). Shots n w.text xs [] w.text rest.0) later rest.1),
       λ other. not_settled_first w.status rest.0 other (rest.2 other),
     )
   where
@@ -251,11 +254,10 @@ module _ (passed : (seconds : ℕ) (v : View) → LastsFor (seconds + 1) v → L
       let more = still_shots n rest (second + suc window) left shot.verdict still shot.says in
       let later : Shots n ended (quiet n rest (second + suc window) (after_quiet n (suc window) v)) [] ended more.0 =
       subst (λ (u : View). Shots n ended (quiet n rest (second + suc window) u) [] ended more.0) (sym after_window)
-      (subst (λ (t : List ℕ). Shots n t (quiet n rest (second + suc window) left) [] t more.0) shot.ends more.1) in
-      (
+      (subst (λ (t : List ℕ). Shots n t (quiet n rest (second + suc window) left) [] t more.0) shot.ends more.1) in (
         film.0 ++ more.0,
         subst (λ (t : List ℕ). Shots n last (quiet n (suc window + rest) second v) t ended (film.0 ++ more.0)) (append-nil text)
-        (subst (λ (xs : List (ℕ × View)). Shots n last xs (text ++ []) ended (film.0 ++ more.0)) (sym (quiet_less n (suc window) rest second v)) (shots_then film.1 later)),
+            (subst (λ (xs : List (ℕ × View)). Shots n last xs (text ++ []) ended (film.0 ++ more.0)) (sym (quiet_less n (suc window) rest second v)) (shots_then film.1 later)),
         λ is. both_not film.0 more.0 (film.2 is) (more.2 (shot.status (film.2 is))),
       )
 
@@ -288,3 +290,29 @@ which_judged window count judged h = by (nat_lt (window + 1) count) refl
     by : (b : Bool) → nat_lt (window + 1) count ≡ b → (judged ≡ count) ⊎ ((rest : ℕ) × (judged ≡ suc window) × (count ≡ suc window + rest))
     by true t = let more = ltb-true (window + 1) count t in inr (count - suc window, omega (arith, h, more), omega (arith, more))
     by false t = let few = ltb-false (window + 1) count t in inl (omega (arith, h, few))
+
+-- ---- a line
+
+module _ (said : (n : Network) (seconds line : ℕ) (said : TimedSaid) (v : View) → 1 ≤ seconds → LastsFor seconds v → LastsFor seconds (after_said n seconds line said v))
+    (passed : (seconds : ℕ) (v : View) → LastsFor (seconds + 1) v → LastsFor seconds (passed_view v))
+    (closed : (n : Network) (seconds : ℕ) (v : View) → LastsFor seconds v → LastsFor seconds (closed_view n v))
+    (n : Network) (window : ℕ) (some : 1 ≤ window) where
+  passed_still : (v : View) → LastsFor window v → LastsFor window (passed_view v)
+  passed_still v h =
+      let next : window ≡ window - 1 + 1 = omega (arith, some) in
+      let less = passed (window - 1) v (subst (λ (m : ℕ). LastsFor m v) next h) in
+      record {
+        words = λ i p x is. let both = less.words i p x is in (both.0, omega (arith, both.1));
+        heard = λ i. let most = less.heard i in omega (arith, most);
+        episode = λ e is. let both = less.episode e is in (both.0, omega (arith, both.1));
+      }
+
+  quiet_lasts : (k : ℕ) (v : View) → LastsFor window v → LastsFor window (after_quiet n k v)
+  quiet_lasts zero v h = h
+  quiet_lasts (suc k) v h = quiet_lasts k (passed_view (closed_view n v)) (passed_still (closed_view n v) (closed n window v h))
+
+  -- nothing lasts for longer behind a line
+  pub line_lasts : (line : TimedLine) (k : ℕ) (v : View) → LastsFor window v → LastsFor window (after_line n window line (after_quiet n k v))
+  line_lasts Skipped k v h = quiet_lasts k v h
+  line_lasts (Record r) k v h = said n window r.line (captured r.micros (timed_capture r)) (after_quiet n k v) some (quiet_lasts k v h)
+  line_lasts (Bad fault) k v h = said n window fault.line (bad_said fault.micros fault.code) (after_quiet n k v) some (quiet_lasts k v h)

@@ -1,8 +1,11 @@
 -- What `watch` prints.
-use Rattle.std.specs.Prelude.{◌≡◌, ◌≢◌, ℕ, ◌+◌, ◌<◌, zero, suc, Bool, true, false, List, [], ◌∷◌, ◌++◌, All, codes, Some, None}
+use Rattle.std.specs.Prelude.{◌≡◌, ◌≢◌, ℕ, ◌+◌, ◌-◌, ◌/◌, ◌<◌, nat_lt, if◌then◌else◌, zero, suc, Bool, true, false, List, [], ◌∷◌, ◌++◌, All, codes, Option, Some, None}
 use Rattle.rip_plan.specs.Network.{Network}
+use Rattle.rip_log.specs.TimedCall.{timed_said_of}
+use Rattle.rip_log.specs.TimedText.{TimedSaid, captured, bad, untimed}
+use Rattle.rip_log.specs.declared.timed.reader.TimedLine.{TimedLine}
 use Rattle.rip_log.specs.Times.{IsSecondText}
-use Rattle.rip_table.specs.Scenes.{View, closed_view, passed_view}
+use Rattle.rip_table.specs.Scenes.{View, after_said, closed_view, passed_view}
 use Rattle.rip_table.specs.Window.{shown}
 use Rattle.rip_table.specs.declared.scene.Episode.{Episode}
 use Rattle.rip_report.specs.AuditText.{VerdictText}
@@ -77,3 +80,46 @@ abbrev pub QuietBegun : Network → Bool → List ℕ → ℕ → View → ℕ �
 QuietBegun n until last second v count text =
     (k : ℕ) × (k < count)
     × ((ended : List ℕ) × FilmOf n until last (quiet n k second v) ended text)
+
+-- ---- lines
+
+-- a line that is not skipped: its number, and what it says
+pub record LineSaid : Type 0 where
+  pub line : ℕ
+  pub said : TimedSaid
+
+-- the second of a line's time, if it has one
+abbrev pub own_second : TimedSaid → Option ℕ
+own_second (captured micros c) = Some (micros / 1_000_000)
+own_second (bad micros code) = Some (micros / 1_000_000)
+own_second (untimed code) = None
+
+-- the second of a line: its own, or the one before, whichever is later
+abbrev pub later_second : ℕ → Option ℕ → ℕ
+later_second second None = second
+later_second second (Some own) = if nat_lt second own then own else second
+
+-- What is to be seen at the end of each second, from the present one on to that of the last line.
+abbrev pub seconds_of : Network → ℕ → ℕ → View → List LineSaid → List (ℕ × View)
+seconds_of n window second v [] = (second, closed_view n v) ∷ []
+seconds_of n window second v (l ∷ lines) =
+    quiet n (later_second second (own_second l.said) - second) second v
+    ++ seconds_of n window (later_second second (own_second l.said))
+    (after_said n window l.line l.said
+    (after_quiet n (later_second second (own_second l.said) - second) v)) lines
+
+-- of a line that is lent: the second of its time, if it has one
+abbrev pub said_second : Option TimedSaid → Option ℕ
+said_second None = None
+said_second (Some said) = own_second said
+
+abbrev pub line_second : TimedLine → Option ℕ
+line_second line = said_second (timed_said_of line)
+
+-- how many seconds come before it, the present one with them
+abbrev pub seconds_before : ℕ → TimedLine → ℕ
+seconds_before second line = later_second second (line_second line) - second
+
+-- what is printed for the first of so many quiet seconds, or for all
+abbrev pub LineBegun : Network → Bool → List ℕ → ℕ → View → ℕ → List ℕ → Type 0
+LineBegun n until last second v count = QuietBegun n until last second v (count + 1)

@@ -1,21 +1,23 @@
 //! The command `watch`: the verdict on a network in each second of a log with times.
 
-ghost use Rattle.std.specs.Prelude.{◌≡◌, ◌≢◌, ◌+◌, ◌-◌, ◌≤◌, false, true, IfOk, OnErr, Ok};
+ghost use Rattle.std.specs.Prelude.{◌≡◌, ◌≢◌, ◌+◌, ◌-◌, ◌≤◌, false, true, IfOk, IfSome, OnErr, Ok};
+ghost use Rattle.rip_log.specs.TimedCall.{timed_said_of};
+ghost use Rattle.rip_log.specs.TimedText.{IsEarly};
 ghost use Rattle.rip_log.specs.declared.limits.TheConstants.{MOST_SECONDS};
 ghost use Rattle.rip_table.specs.State.{Fits};
 ghost use Rattle.rip_table.specs.Window.{shown};
-ghost use Rattle.rip_table.specs.Scenes.{LastsFor, closed_view};
+ghost use Rattle.rip_table.specs.Scenes.{LastsFor, after_line, closed_view};
 ghost use Rattle.rip_table.specs.SceneViews.{view_of};
 ghost use Rattle.rip_report.specs.AuditText.{IsJudged};
 ghost use Rattle.rip_report.specs.Finished.{AddsWritten};
 ghost use Rattle.rip_report.specs.Outs.{AddsOne};
-ghost use Rattle.rip_report.specs.WatchText.{IsShot, QuietBegun, QuietFilm, SceneText, after_quiet};
+ghost use Rattle.rip_report.specs.WatchText.{IsShot, LineBegun, QuietBegun, QuietFilm, SceneText, after_quiet, later_second, line_second, seconds_before};
 
 use crate::audit::add_audit;
 use crate::output::Out;
 use crate::refusal::push_refusal_line;
 use crate::status::Status;
-use rip_log::{Failed, IntoWrite, Sink, write_second};
+use rip_log::{Failed, IntoWrite, Sink, TimedLine, write_second};
 use rip_plan::Plan;
 use rip_table::laws::lasting_scenes;
 use rip_table::{Scene, Table, WindowLength, WindowTable};
@@ -78,6 +80,36 @@ fn is_end(until_settled: bool, status: Status) -> bool
     ensures goes_on { result ≡ false → until_settled ≡ true → status ≢ Status.Settled }
 {
     until_settled && status == Status::Settled
+}
+
+/// The second of a line's time, if it has one.
+fn second_of(line: &TimedLine<'_>) -> Option<u64>
+    requires { IsEarly (timed_said_of line.now) }
+    ensures second { result ≡ line_second line.now }
+    ensures most { IfSome result (λ second. second ≤ MOST_SECONDS) }
+{
+    match line {
+        TimedLine::Skipped => None,
+        TimedLine::Record(record) => Some(record.micros / 1_000_000),
+        TimedLine::Bad(fault) => match fault.micros {
+            None => None,
+            Some(micros) => Some(micros / 1_000_000),
+        },
+    }
+}
+
+/// The second of a line behind others: its own, or the one before, whichever is later.
+fn second_with(second: u64, line: &TimedLine<'_>) -> u64
+    requires second { second ≤ MOST_SECONDS }
+    requires early { IsEarly (timed_said_of line.now) }
+    ensures later { result ≡ later_second second (line_second line.now) }
+    ensures low { second ≤ result }
+    ensures most { result ≤ MOST_SECONDS }
+{
+    match second_of(line) {
+        Some(own) if second < own => own,
+        _ => second,
+    }
 }
 
 /// How far a film has come: the scene of the present second, and the verdict of the second before.
@@ -187,5 +219,49 @@ impl<T: WindowTable> Film<T> {
             self.second = to;
         }
         Ok(settled)
+    }
+
+    /// Takes in a line, behind the seconds before its own. Where a settled second among these ends
+    /// the film, the line is left out, and the answer is that it did.
+    fn take<K: Sink>(
+        &mut self,
+        alloc: Global,
+        plan: &Plan,
+        watching: Watching,
+        line: &TimedLine<'_>,
+        out: &mut Out<K>,
+    ) -> Result<bool, AllocError>
+        requires fits { Fits plan.now (shown (view_of T.window self.old.scene).window) }
+        requires second { self.old.second ≤ MOST_SECONDS }
+        requires early { IsEarly (timed_said_of line.now) }
+        requires lasts { LastsFor watching.length (view_of T.window self.old.scene) }
+        ensures film { IfOk result (λ settled. AddsOne out.old out.new (QuietFilm plan.now
+            watching.until_settled self.old.last.items self.old.second
+            (view_of T.window self.old.scene) (seconds_before self.old.second line.now) settled
+            self.new.last.items)) }
+        ensures begun { OnErr result (AddsOne out.old out.new (LineBegun plan.now
+            watching.until_settled self.old.last.items self.old.second
+            (view_of T.window self.old.scene) (seconds_before self.old.second line.now))) }
+        ensures view { result ≡ Ok false → view_of T.window self.new.scene
+            ≡ after_line plan.now watching.length line.now (after_quiet plan.now
+            (seconds_before self.old.second line.now) (view_of T.window self.old.scene)) }
+        ensures second { result ≡ Ok false → self.new.second
+            ≡ self.old.second + seconds_before self.old.second line.now }
+        ensures most { result ≡ Ok false → self.new.second ≤ MOST_SECONDS }
+        ensures lasts { result ≡ Ok false →
+            LastsFor watching.length (view_of T.window self.new.scene) }
+        ensures fits { Fits plan.now (shown (view_of T.window self.new.scene).window) }
+    {
+        lasting_scenes();
+        let length = watching.length;
+        length.lawful();
+        let to = second_with(self.second, line);
+        if self.advance(alloc, plan, watching, to, out)? {
+            return Ok(true);
+        }
+        match self.scene.hear(plan, length, line) {
+            Ok(()) => Ok(false),
+            Err(_) => Err(AllocError),
+        }
     }
 }

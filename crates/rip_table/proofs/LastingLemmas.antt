@@ -1,15 +1,14 @@
 -- Nothing in a scene lasts for longer than a window.
-use Rattle.std.proofs.Common.{◌≡◌, ℕ, zero, suc, ◌+◌, ◌-◌, ◌==◌, ◌≤◌, nat_lt, Bool, true, false, cond, ◌||◌, List, [], ◌∷◌, filter, Option, Some, None, Result, Ok, Err, refl, sym, ap, subst, ◌∙◌, arith}
-use Rattle.std.specs.Prelude.{is_some}
-use Rattle.std.proofs.lemmas.Bool.{ltb-true, ltb-false}
+use Rattle.std.proofs.Common.{◌≡◌, ℕ, ◌+◌, ◌-◌, ◌==◌, ◌≤◌, nat_lt, Bool, true, false, cond, List, [], ◌∷◌, filter, Option, Some, None, Result, Ok, Err, refl, ap, ◌∙◌, arith}
+use Rattle.std.proofs.lemmas.Bool.{ltb-true}
 use mathlib.Core.Path.{fun_ext}
 use Rattle.rip_wire.specs.Prefix.{Block}
 use Rattle.rip_wire.specs.Message.{Message, request, response}
 use Rattle.rip_log.specs.TimedText.{TimedSaid, captured, bad, untimed}
 use Rattle.rip_plan.specs.Network.{Network}
-use Rattle.rip_table.specs.State.{State, is_among}
+use Rattle.rip_table.specs.State.{State}
 use Rattle.rip_table.specs.Joined.{interface_of, joined_message, message_of_capture}
-use Rattle.rip_table.specs.Window.{Window, Word, any_below, forgotten, passed, passed_word, shown, told_message, window_after, with_words, without_shown, word_or}
+use Rattle.rip_table.specs.Window.{Word, passed_word, shown, window_after, with_words, without_shown, word_or}
 use Rattle.rip_table.specs.Scenes.{LastsFor, View, after_message, after_said, closed_view, new_view, passed_episode, passed_view, with_refusal, with_window}
 use Rattle.rip_table.specs.declared.error.TableError.{TableError}
 use Rattle.rip_table.specs.declared.scene.Episode.{Episode}

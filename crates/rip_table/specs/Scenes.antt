@@ -3,7 +3,6 @@ use Rattle.std.specs.Prelude.{◌≡◌, ℕ, ◌-◌, ◌≤◌, nat_lt, if◌t
 use Rattle.rip_wire.specs.Message.{Message, request, response}
 use Rattle.rip_wire.specs.Prefix.{Block}
 use Rattle.rip_plan.specs.Network.{Network}
-use Rattle.rip_log.specs.Lines.{Capture}
 use Rattle.rip_log.specs.TimedCall.{bad_said, timed_capture}
 use Rattle.rip_log.specs.TimedText.{TimedSaid, captured, bad, untimed}
 use Rattle.rip_log.specs.declared.timed.reader.TimedLine.{TimedLine}

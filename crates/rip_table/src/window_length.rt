@@ -36,6 +36,14 @@ impl WindowLength {
         }
     }
 
+    /// It is 1 to 86,400. Does nothing.
+    pub fn lawful(self)
+        ensures low { 1 ≤ self }
+        ensures high { self ≤ MOST_WINDOW }
+    {
+        let _seconds = self.seconds;
+    }
+
     /// How many seconds it is, 1 to 86,400.
     pub const fn get(self) -> u32
         ensures seconds { result ≡ self }

@@ -1,6 +1,6 @@
 //! The fields of a line with a time.
 
-ghost use Rattle.rip_log.specs.TimedParts.{IsSplitTimed};
+ghost use Rattle.rip_log.specs.TimedParts.{IsEarlySplit, IsSplitTimed};
 
 use crate::fields::{is_field, skip_blanks, skip_field, three_from};
 use crate::span::Span;
@@ -18,7 +18,8 @@ pub enum TimedFields {
 
 /// The fields of a line.
 pub fn split_timed(line: &[u8]) -> TimedFields
-    ensures { IsSplitTimed line.now result }
+    ensures splits { IsSplitTimed line.now result }
+    ensures early { IsEarlySplit result }
 {
     let from = skip_blanks(line, 0);
     if from == line.len() || line[from] == b'#' {

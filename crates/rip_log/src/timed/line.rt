@@ -1,7 +1,7 @@
 //! What one line with a time says.
 
 ghost use Rattle.std.specs.Prelude.{◌≤◌, length};
-ghost use Rattle.rip_log.specs.TimedParts.{AreTimedParts, timed_said};
+ghost use Rattle.rip_log.specs.TimedParts.{AreTimedParts, IsEarlyJudged, timed_said};
 ghost use Rattle.rip_log.specs.TimedText.{IsTimedLine};
 
 use crate::error::LineFault;
@@ -26,6 +26,7 @@ pub fn judge_timed(line: &[u8], room: &mut [u8; MOST_BYTES]) -> Judged
     requires { length line.now ≤ MOST_LINE_BYTES }
     ensures says { IsTimedLine line.now (timed_said line.now room.new result) }
     ensures parts { AreTimedParts line.now room.new result }
+    ensures early { IsEarlyJudged result }
 {
     laws::names();
     laws::address_texts();

@@ -86,6 +86,7 @@ impl<R: Source> TimedReader<R> {
     ghost use Rattle.rip_log.specs.Cuts.{IsEndless};
     ghost use Rattle.rip_log.specs.Held.{ended_lines};
     ghost use Rattle.rip_log.specs.Wholes.{OfWhole, Went};
+    ghost use Rattle.rip_log.specs.TimedText.{IsEarly};
     ghost use Rattle.rip_log.specs.TimedCall.{IsGoodTimed, TakesTimed, TimedCall, found_said, timed_held, timed_lines, timed_number, timed_said_of, timed_source, timed_text};
 
     /// A reader at the front of the source's text. It allocates its buffer, and pulls nothing yet.
@@ -114,6 +115,7 @@ impl<R: Source> TimedReader<R> {
             (λ coming. TakesTimed (timed_text coming self.old) (timed_text coming self.new)
             (found_said self.new found))) }
         ensures good { IfOk result (IsGoodTimed self.new) }
+        ensures early { IfOk result (λ found. IsEarly (found_said self.new found)) }
         ensures failed { OnErr result (OfWhole R.given R.at_end (timed_source self.new)
             (λ coming. (R.broken (timed_source self.new) ≡ true)
             ⊎ IsEndless (timed_text coming self.old))) }

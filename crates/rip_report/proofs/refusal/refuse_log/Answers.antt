@@ -1,6 +1,5 @@
 use Rattle.std.proofs.Common.{ℕ, ap, ◌∙◌}
 use Rattle.rip_report.specs.RefusalText.{refusal_line}
-use Rattle.rip_report.specs.Written.{Written}
 use Rattle.rip_report.specs.declared.status.Status.TheVariants.{Refused}
 use Rattle.rip_table.specs.declared.scene.LineCause.{LineCause}
 use Rattle.rip_report.proofs.EndLemmas.{ends_one}

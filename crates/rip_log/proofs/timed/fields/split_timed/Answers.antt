@@ -12,8 +12,8 @@ use Rattle.rip_log.proofs.timed.fields.split_timed.Goals as goal
 not-four : (fields : List (List ℕ)) → (length fields ≡ 4 → ⊥) → (micros : ℕ) (link sender digits : List ℕ) → AreTimed fields micros link sender digits → ⊥
 not-four fields count micros link sender digits timed = count (ap length timed.1)
 
-pub returns-then-from-line : goal.returns-then-from-line
-returns-then-from-line c =
+pub returns-then-from-line-clause-splits : goal.returns-then-from-line-clause-splits
+returns-then-from-line-clause-splits c =
     let line = c.args.line.now in
     let from = c.skip_blanks-from.result in
     let skips = c.skip_blanks-from.ensures in
@@ -24,8 +24,8 @@ returns-then-from-line c =
           inr (is_comment-yes line from inside (skips.stops inside) skips.same w.if-line-from-eq35.true)
     ]
 
-pub returns-in_default : goal.returns-in_default
-returns-in_default c =
+pub returns-in_default-clause-splits : goal.returns-in_default-clause-splits
+returns-in_default-clause-splits c =
     let line = c.args.line.now in
     let from = c.skip_blanks-from.result in
     let skips = c.skip_blanks-from.ensures in
@@ -38,8 +38,8 @@ returns-in_default c =
           c.in_default.not-Some micros ((c.read_time.ensures.exact micros).1 (subst (IsTimeText micros) same timed.2)),
     )
 
-pub returns-in_default-three_from : goal.returns-in_default-three_from
-returns-in_default-three_from c =
+pub returns-in_default-three_from-clause-splits : goal.returns-in_default-three_from-clause-splits
+returns-in_default-three_from-clause-splits c =
     let line = c.args.line.now in
     let from = c.skip_blanks-from.result in
     let skips = c.skip_blanks-from.ensures in
@@ -51,8 +51,8 @@ returns-in_default-three_from c =
       not-four (fields_of line) (λ four. omega (arith, four, fields, few)),
     )
 
-pub returns-then-is_field : goal.returns-then-is_field
-returns-then-is_field c =
+pub returns-then-is_field-clause-splits : goal.returns-then-is_field-clause-splits
+returns-then-is_field-clause-splits c =
     let line = c.args.line.now in
     let time = slice_range line c.skip_blanks-from.result c.skip_field-to.result in
     let link = slice_of line c.in-Some-three_from.link in
@@ -66,8 +66,8 @@ returns-then-is_field c =
       three.3,
     )
 
-pub returns-else-is_field : goal.returns-else-is_field
-returns-else-is_field c =
+pub returns-else-is_field-clause-splits : goal.returns-else-is_field-clause-splits
+returns-else-is_field-clause-splits c =
     let line = c.args.line.now in
     let from = c.skip_blanks-from.result in
     let skips = c.skip_blanks-from.ensures in

@@ -10,11 +10,11 @@ use Rattle.rip_log.proofs.TimedLemmas.{skipped-line, timed-line, untimed-line}
 use Rattle.rip_log.proofs.timed.line.judge_timed.Goals as goal
 
 pub returns-in-Nothing-clause-says : goal.returns-in-Nothing-clause-says
-returns-in-Nothing-clause-says c = skipped-line c.args.line.now c.requires (rw c.without_return-bare.ensures at c.in-Nothing.ensures)
+returns-in-Nothing-clause-says c = skipped-line c.args.line.now c.requires (rw c.without_return-bare.ensures at c.in-Nothing.ensures.splits)
 
 pub returns-in-Others-clause-says : goal.returns-in-Others-clause-says
 returns-in-Others-clause-says c =
-    let others = rw c.without_return-bare.ensures at c.in-Others.ensures in
+    let others = rw c.without_return-bare.ensures at c.in-Others.ensures.splits in
     untimed-line c.args.line.now c.requires others.0 others.1 others.2
 
 pub returns-in-Ok-clause-says : goal.returns-in-Ok-clause-says
@@ -26,7 +26,7 @@ returns-in-Ok-clause-says c =
     let link = slice_of bare c.in-Four.link in
     let sender = slice_of bare c.in-Four.sender in
     let digits = slice_of bare c.in-Four.digits in
-    let four = rw c.without_return-bare.ensures at c.in-Four.ensures in
+    let four = rw c.without_return-bare.ensures at c.in-Four.ensures.splits in
     let said = three-line _ (origin_by []) line room (Ok c.in-Ok.parts) (rw c.without_return-bare.ensures at c.in-Ok.ensures) in
     timed-line laws line c.in-Four.micros link sender digits (Ok (Some (capture_of_parts line room c.in-Ok.parts))) c.requires four.0 said.0
 
@@ -41,6 +41,6 @@ returns-in-Err-clause-says c =
     let link = slice_of bare c.in-Four.link in
     let sender = slice_of bare c.in-Four.sender in
     let digits = slice_of bare c.in-Four.digits in
-    let four = rw c.without_return-bare.ensures at c.in-Four.ensures in
+    let four = rw c.without_return-bare.ensures at c.in-Four.ensures.splits in
     let said = three-line _ _ line c.judge_fields.new.room (Err c.in-Err.fault) (rw c.without_return-bare.ensures at c.in-Err.ensures) in
     timed-line laws line c.in-Four.micros link sender digits (Err (code_of c.in-Err.fault.why)) c.requires four.0 said.code

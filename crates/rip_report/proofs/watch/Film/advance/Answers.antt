@@ -1,5 +1,4 @@
-use Rattle.std.proofs.Common.{inl, inr, ◌⊎◌, ◌≡◌, ◌<◌, ◌≤◌, ◌+◌, ◌-◌, ◌∙◌, min, ℕ, suc, Bool, true, false, nat_lt, Ok, refl, ap, arith}
-use Rattle.std.proofs.lemmas.Bool.{ltb-true, ltb-false}
+use Rattle.std.proofs.Common.{◌≡◌, ◌+◌, ◌-◌, ◌∙◌, min, ℕ, ap}
 use Rattle.rip_table.specs.SceneViews.{view_of}
 use Rattle.rip_report.proofs.OutLemmas.{added_also}
 use Rattle.rip_report.proofs.WatchLemmas.{judged_after, judged_film, quiet_film, which_judged}

@@ -1,8 +1,7 @@
-use Rattle.std.proofs.Common.{◌≡◌, ◌∙◌, ◌+◌, ◌++◌, ℕ, List, Bool, true, suc, ap, sym, subst, arith, refl}
+use Rattle.std.proofs.Common.{◌≡◌, ◌∙◌, ◌+◌, ◌++◌, ℕ, suc, ap, sym, subst, arith, refl}
 use Rattle.rip_table.specs.SceneViews.{view_of}
 use Rattle.rip_table.specs.Scenes.{View, closed_view, passed_view}
 use Rattle.rip_report.specs.WatchText.{FilmOf, FilmToSettled, IsShot, after_quiet, quiet}
-use Rattle.rip_report.specs.Written.{Written}
 use Rattle.rip_report.proofs.OutLemmas.{adds_nothing}
 use Rattle.rip_report.proofs.WatchLemmas.{added_then, after_more, film_more, film_none, film_settled}
 use Rattle.rip_report.proofs.watch.Film.pass_quiet.Goals as goal
@@ -24,12 +23,18 @@ returns-then-is_end-clause-film g c =
     let ends = c.is_end.ensures.ends c.if-is_end.true in
     let shown : view_of g.T.WindowTable.window c.show.new.self.scene ≡ closed_view n (after_quiet n k v) = c.in_ok-status.ensures.view ∙ ap (closed_view n) c.loop.invariant.view in
     added_then
-    (λ text more film shot. (ends.0, (k, c.loop-test.true,
-    subst (λ (j : ℕ). FilmToSettled n c.args.self.now.last.items (quiet n j c.args.self.now.second v) c.show.new.self.last.items (text ++ more)) next
-    (film_settled c.args.self.now.second k v film ends.0
-    (subst (λ (s : ℕ). IsShot n s (closed_view n (after_quiet n k v)) c.loop.self.last.items (record { text = c.show.new.self.last.items; status = c.in_ok-status.status }) more) c.loop.invariant.second
-    (subst (λ (u : View). IsShot n c.loop.self.second u c.loop.self.last.items (record { text = c.show.new.self.last.items; status = c.in_ok-status.status }) more) shown shot))
-    ends.1))))
+    (λ text more film shot. (
+      ends.0,
+      (
+        k,
+        c.loop-test.true,
+        subst (λ (j : ℕ). FilmToSettled n c.args.self.now.last.items (quiet n j c.args.self.now.second v) c.show.new.self.last.items (text ++ more)) next
+            (film_settled c.args.self.now.second k v film ends.0
+            (subst (λ (s : ℕ). IsShot n s (closed_view n (after_quiet n k v)) c.loop.self.last.items (record { text = c.show.new.self.last.items; status = c.in_ok-status.status }) more) c.loop.invariant.second
+            (subst (λ (u : View). IsShot n c.loop.self.second u c.loop.self.last.items (record { text = c.show.new.self.last.items; status = c.in_ok-status.status }) more) shown shot))
+            ends.1),
+      ),
+    ))
     c.loop.invariant.film c.in_ok-status.ensures.shot
 
 pub loop-preserved : goal.loop-preserved

@@ -1,4 +1,4 @@
-use Rattle.std.proofs.Common.{◌≡◌, ◌+◌, ℕ}
+use Rattle.std.proofs.Common.{◌≡◌, ◌+◌}
 use Rattle.rip_table.specs.SceneViews.{view_of}
 use Rattle.rip_table.specs.State.{Fits}
 use Rattle.rip_table.specs.Window.{shown}

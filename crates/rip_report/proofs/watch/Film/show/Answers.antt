@@ -1,9 +1,7 @@
-use Rattle.std.proofs.Common.{◌≡◌, ◌≢◌, ◌∙◌, ◌++◌, ap, subst, sym, rules, List, ℕ, []}
+use Rattle.std.proofs.Common.{◌≡◌, ◌≢◌, ◌++◌, ap, rules, List, ℕ, []}
 use Rattle.std.specs.Prelude.{codes}
 use Rattle.rip_table.specs.SceneViews.{view_of}
-use Rattle.rip_report.specs.WatchText.{SceneText}
-use Rattle.rip_report.specs.Written.{Written}
-use Rattle.rip_report.proofs.OutLemmas.{adds_nothing, adds_one, adds_same, adds_then}
+use Rattle.rip_report.proofs.OutLemmas.{adds_same, adds_then}
 use Rattle.rip_report.proofs.WatchLemmas.{other_shot, same_shot}
 use Rattle.rip_report.proofs.watch.Film.show.Goals as goal
 
