@@ -1,5 +1,5 @@
 -- What the verdict of a second is.
-use Rattle.std.proofs.Common.{◌≡◌, ◌≢◌, ◌∙◌, ◌+◌, ◌-◌, ◌≤◌, ◌++◌, min, nat_lt, [], ◌∷◌, ℕ, zero, suc, Bool, true, false, inl, inr, ◌⊎◌, List, Option, Some, None, refl, sym, ap, subst, append_assoc, append-nil, arith}
+use Rattle.std.proofs.Common.{◌≡◌, ◌≢◌, ◌∙◌, ◌+◌, ◌-◌, ◌<◌, ◌≤◌, ◌++◌, min, nat_lt, [], ◌∷◌, ℕ, zero, suc, Bool, true, false, inl, inr, ◌⊎◌, List, Option, Some, None, refl, sym, ap, subst, append_assoc, append-nil, arith}
 use Rattle.std.specs.Prelude.{codes, option_map}
 use Rattle.std.proofs.lemmas.Bool.{ltb-true, ltb-false}
 use Rattle.rip_log.specs.TimedCall.{bad_said, timed_capture}
@@ -15,12 +15,12 @@ use Rattle.rip_table.specs.declared.scene.Episode.{Episode}
 use Rattle.rip_table.specs.declared.scene.LineRefusal.{LineRefusal}
 use Rattle.rip_report.specs.AuditText.{VerdictText}
 use Rattle.rip_report.specs.RefusalText.{refusal_line}
-use Rattle.rip_report.specs.WatchText.{AreNotSettled, FilmOf, FilmToSettled, IsShot, QuietFilm, SceneText, Shots, after_quiet, quiet}
+use Rattle.rip_report.specs.WatchText.{AreNotSettled, FilmFrom, FilmOf, FilmToSettled, IsShot, LineSaid, QuietFilm, SceneText, Shots, after_quiet, later_second, own_second, quiet, seconds_of}
 use Rattle.rip_report.specs.Outs.{Adds, AddsOne, Progress}
 use Rattle.rip_report.specs.declared.status.Status.{Status}
 use Rattle.rip_report.proofs.OutLemmas.{adds_nothing, adds_one, adds_then}
 use Rattle.rip_report.specs.Written.{Written}
-use Rattle.rip_report.specs.declared.status.Status.TheVariants.{Refused, Settled}
+use Rattle.rip_report.specs.declared.status.Status.TheVariants.{Done, Refused, Settled, Unclear, Unsettled}
 
 abbrev first_in : Option Episode → Option LineRefusal
 first_in o = option_map (λ (e : Episode). e.first) o
@@ -316,3 +316,57 @@ module _ (said : (n : Network) (seconds line : ℕ) (said : TimedSaid) (v : View
   line_lasts Skipped k v h = quiet_lasts k v h
   line_lasts (Record r) k v h = said n window r.line (captured r.micros (timed_capture r)) (after_quiet n k v) some (quiet_lasts k v h)
   line_lasts (Bad fault) k v h = said n window fault.line (bad_said fault.micros fault.code) (after_quiet n k v) some (quiet_lasts k v h)
+
+-- ---- the rest of a film
+
+-- a line, behind the seconds before its own
+pub film_line : {n : Network} {window : ℕ} {until : Bool} {last mid text : List ℕ} (second : ℕ) (v : View) (l : LineSaid) (lines : List LineSaid) {w : Written}
+    → FilmOf n until last (quiet n (later_second second (own_second l.said) - second) second v) mid text
+    → FilmFrom n window until mid (later_second second (own_second l.said)) (after_said n window l.line l.said (after_quiet n (later_second second (own_second l.said) - second) v)) lines w
+    → FilmFrom n window until last second v (l ∷ lines) (record { text = text ++ w.text; status = w.status })
+film_line {n = n} {window = window} {last = last} {text = before} second v l lines film (FilmFrom.to_end text ended statuses status shots none) =
+    FilmFrom.to_end (before ++ text) ended (film.0 ++ statuses) status
+    (subst (λ (ss : List Status). Shots n last (seconds_of n window second v (l ∷ lines)) (before ++ text) ended ss) (sym (append_assoc film.0 statuses (status ∷ []))) (shots_then film.1 shots))
+    (λ is. subst AreNotSettled (sym (append_assoc film.0 statuses (status ∷ []))) (both_not film.0 (statuses ++ status ∷ []) (film.2 is) (none is)))
+film_line {n = n} {last = last} {text = first} second v l lines film (FilmFrom.to_settled text ended before after is seconds settled) =
+    let front = quiet n (later_second second (own_second l.said) - second) second v in
+    FilmFrom.to_settled (first ++ text) ended (front ++ before) after is
+    (ap (λ (xs : List (ℕ × View)). front ++ xs) seconds ∙ sym (append_assoc front before after))
+    (
+      film.0 ++ settled.0,
+      subst (λ (ss : List Status). Shots n last (front ++ before) (first ++ text) ended ss) (sym (append_assoc film.0 settled.0 (Settled ∷ []))) (shots_then film.1 settled.1),
+      both_not film.0 settled.0 (film.2 is) settled.2,
+    )
+
+-- a second before that of a line that is settled, and ends it
+pub film_over : {n : Network} {until : Bool} {last ended text : List ℕ} (window second k : ℕ) (v : View) (l : LineSaid) (lines : List LineSaid) → until ≡ true
+    → k < later_second second (own_second l.said) - second → FilmToSettled n last (quiet n (k + 1) second v) ended text
+    → FilmFrom n window until last second v (l ∷ lines) (record { text = text; status = Settled })
+film_over {n = n} {ended = ended} {text = text} window second k v l lines is lt settled =
+    let count = later_second second (own_second l.said) - second in
+    let whole : count ≡ k + 1 + (count - (k + 1)) = omega (arith, lt) in
+    let rest = seconds_of n window (later_second second (own_second l.said)) (after_said n window l.line l.said (after_quiet n count v)) lines in
+    let later = quiet n (count - (k + 1)) (second + (k + 1)) (after_quiet n (k + 1) v) in
+    FilmFrom.to_settled text ended (quiet n (k + 1) second v) (later ++ rest) is
+    (ap (λ (xs : List (ℕ × View)). xs ++ rest) (ap (λ (m : ℕ). quiet n m second v) whole ∙ quiet_less n (k + 1) (count - (k + 1)) second v)
+    ∙ append_assoc (quiet n (k + 1) second v) later rest)
+    settled
+
+-- the last second
+pub film_end : {n : Network} {window second : ℕ} {until : Bool} {last text : List ℕ} (v : View) {w : Written} → IsShot n second (closed_view n v) last w text
+    → FilmFrom n window until last second v [] (record { text = text; status = w.status })
+film_end {n = n} {window = window} {second = second} {until = until} {last = last} {text = text} v {w = w} shot = by until w.status refl
+  where
+    to_end : (b : Bool) → (b ≡ true → w.status ≢ Settled) → FilmFrom n window b last second v [] (record { text = text; status = w.status })
+    to_end b other = FilmFrom.to_end text w.text [] w.status (shots_one shot) (λ is. not_settled [] w.status (λ k d lt. absurd (omega (arith, lt))) (other is))
+
+    by : (b : Bool) (s : Status) → w.status ≡ s → FilmFrom n window b last second v [] (record { text = text; status = w.status })
+    by false s is = to_end false (λ e. absurd (cc e))
+    by true Settled is =
+        subst (λ (t : Status). FilmFrom n window true last second v [] (record { text = text; status = t })) (sym is)
+        (FilmFrom.to_settled text w.text ((second, closed_view n v) ∷ []) [] refl refl
+        ([], subst (λ (t : Status). Shots n last ((second, closed_view n v) ∷ []) text w.text (t ∷ [])) is (shots_one shot), λ k d lt. absurd (omega (arith, lt))))
+    by true Done is = to_end true (λ e settled. let k : Done ≡ Settled = sym is ∙ settled in absurd (cc k))
+    by true Unsettled is = to_end true (λ e settled. let k : Unsettled ≡ Settled = sym is ∙ settled in absurd (cc k))
+    by true Unclear is = to_end true (λ e settled. let k : Unclear ≡ Settled = sym is ∙ settled in absurd (cc k))
+    by true Refused is = to_end true (λ e settled. let k : Refused ≡ Settled = sym is ∙ settled in absurd (cc k))

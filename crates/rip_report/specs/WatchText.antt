@@ -123,3 +123,17 @@ seconds_before second line = later_second second (line_second line) - second
 -- what is printed for the first of so many quiet seconds, or for all
 abbrev pub LineBegun : Network → Bool → List ℕ → ℕ → View → ℕ → List ℕ → Type 0
 LineBegun n until last second v count = QuietBegun n until last second v (count + 1)
+
+-- What is printed from a second on, where `last` is the verdict of the one before: for all seconds
+-- up to that of the last line, of which none is settled where that would end it; or for those up to
+-- the first that is, where that ends it.
+pub data FilmFrom (n : Network) (window : ℕ) (until : Bool) (last : List ℕ) (second : ℕ) (v : View)
+    (lines : List LineSaid) : Written → Type 0 where
+  to_end : (text ended : List ℕ) (statuses : List Status) (status : Status)
+      → Shots n last (seconds_of n window second v lines) text ended (statuses ++ status ∷ [])
+      → (until ≡ true → AreNotSettled (statuses ++ status ∷ []))
+      → FilmFrom n window until last second v lines (record { text = text; status = status })
+  to_settled : (text ended : List ℕ) (before after : List (ℕ × View)) → until ≡ true
+      → seconds_of n window second v lines ≡ before ++ after
+      → FilmToSettled n last before ended text
+      → FilmFrom n window until last second v lines (record { text = text; status = Settled })
