@@ -1,5 +1,5 @@
 -- What the verdict of a second is.
-use Rattle.std.proofs.Common.{◌≡◌, ◌≢◌, ◌∙◌, ◌+◌, ◌-◌, ◌<◌, ◌≤◌, ◌++◌, min, nat_lt, [], ◌∷◌, ℕ, zero, suc, Bool, true, false, inl, inr, ◌⊎◌, List, Option, Some, None, refl, sym, ap, subst, append_assoc, append-nil, arith}
+use Rattle.std.proofs.Common.{◌≡◌, ◌≢◌, ◌∙◌, ◌+◌, ◌-◌, ◌<◌, ◌≤◌, ◌++◌, min, nat_lt, [], ◌∷◌, ℕ, zero, suc, Bool, true, false, cond, inl, inr, ◌⊎◌, List, Option, Some, None, refl, sym, ap, subst, append_assoc, append-nil, arith}
 use Rattle.std.specs.Prelude.{codes, option_map}
 use Rattle.std.proofs.lemmas.Bool.{ltb-true, ltb-false}
 use Rattle.rip_log.specs.TimedCall.{bad_said, timed_capture}
@@ -15,7 +15,7 @@ use Rattle.rip_table.specs.declared.scene.Episode.{Episode}
 use Rattle.rip_table.specs.declared.scene.LineRefusal.{LineRefusal}
 use Rattle.rip_report.specs.AuditText.{VerdictText}
 use Rattle.rip_report.specs.RefusalText.{refusal_line}
-use Rattle.rip_report.specs.WatchText.{AreNotSettled, FilmFrom, FilmOf, FilmToSettled, IsShot, LineSaid, QuietFilm, SceneText, Shots, after_quiet, later_second, own_second, quiet, seconds_of}
+use Rattle.rip_report.specs.WatchText.{AreNotSettled, FilmFrom, FilmOf, FilmToSettled, IsShot, LineSaid, QuietFilm, SceneText, Shots, after_quiet, later_second, own_second, quiet, seconds_before, seconds_of, with_line}
 use Rattle.rip_report.specs.Outs.{Adds, AddsOne, Progress}
 use Rattle.rip_report.specs.declared.status.Status.{Status}
 use Rattle.rip_report.proofs.OutLemmas.{adds_nothing, adds_one, adds_then}
@@ -370,3 +370,53 @@ film_end {n = n} {window = window} {second = second} {until = until} {last = las
     by true Unsettled is = to_end true (λ e settled. let k : Unsettled ≡ Settled = sym is ∙ settled in absurd (cc k))
     by true Unclear is = to_end true (λ e settled. let k : Unclear ≡ Settled = sym is ∙ settled in absurd (cc k))
     by true Refused is = to_end true (λ e settled. let k : Refused ≡ Settled = sym is ∙ settled in absurd (cc k))
+
+-- ---- a line that is lent
+
+no_text : {n : Network} {last more ended : List ℕ} {ys : List (ℕ × View)} {ss : List Status} → Shots n last ys more ended ss → ys ≡ [] → more ≡ []
+no_text (Shots.none last) is = refl
+no_text (Shots.one last text more ended second v w seconds statuses shot rest) is = absurd (cc is)
+
+said_on : {n : Network} {window : ℕ} {until : Bool} {last mid text : List ℕ} (second : ℕ) (v : View) (l : LineSaid) (lines : List LineSaid) {w : Written}
+    → FilmOf n until last (quiet n (later_second second (own_second l.said) - second) second v) mid text
+    → FilmFrom n window until mid (second + (later_second second (own_second l.said) - second))
+    (after_said n window l.line l.said (after_quiet n (later_second second (own_second l.said) - second) v)) lines w
+    → FilmFrom n window until last second v (l ∷ lines) (record { text = text ++ w.text; status = w.status })
+said_on {n = n} {window = window} {until = until} {mid = mid} second v l lines {w = w} film rest =
+    let own = own_second l.said in
+    let later = later_second second own in
+    let here : second + (later - second) ≡ later = later_than second own in
+    film_line second v l lines film (subst (λ (s : ℕ). FilmFrom n window until mid s (after_said n window l.line l.said (after_quiet n (later - second) v)) lines w) here rest)
+  where
+    later_than : (second : ℕ) (own : Option ℕ) → second + (later_second second own - second) ≡ later_second second own
+    later_than second None = omega arith
+    later_than second (Some own) = by (nat_lt second own) refl
+      where
+        by : (b : Bool) → nat_lt second own ≡ b → second + (cond b own second - second) ≡ cond b own second
+        by true t = let more = ltb-true second own t in omega (arith, more)
+        by false t = omega arith
+
+-- a line that was taken in goes before those to come
+pub line_on : {n : Network} {window : ℕ} {until : Bool} {last mid text : List ℕ} (second : ℕ) (v : View) (line : TimedLine) (lines : List LineSaid) {w : Written}
+    → FilmOf n until last (quiet n (seconds_before second line) second v) mid text
+    → FilmFrom n window until mid (second + seconds_before second line) (after_line n window line (after_quiet n (seconds_before second line) v)) lines w
+    → FilmFrom n window until last second v (with_line line lines) (record { text = text ++ w.text; status = w.status })
+line_on {n = n} {window = window} {until = until} {last = last} {mid = mid} {text = text} second v Skipped lines {w = w} film rest =
+    let none : second - second ≡ 0 = omega arith in
+    let here : second + (second - second) ≡ second = omega arith in
+    let seconds : quiet n (second - second) second v ≡ [] = ap (λ (m : ℕ). quiet n m second v) none in
+    let same : last ≡ mid = no_rest film.1 seconds in
+    let nothing : text ≡ [] = no_text film.1 seconds in
+    subst (λ (t : List ℕ). FilmFrom n window until last second v lines (record { text = t ++ w.text; status = w.status })) (sym nothing)
+    (subst (λ (t : List ℕ). FilmFrom n window until t second v lines w) (sym same)
+    (subst (λ (u : View). FilmFrom n window until mid second u lines w) (ap (λ (m : ℕ). after_quiet n m v) none)
+    (subst (λ (s : ℕ). FilmFrom n window until mid s (after_quiet n (second - second) v) lines w) here rest)))
+line_on second v (Record r) lines film rest = said_on second v (record { line = r.line; said = captured r.micros (timed_capture r) }) lines film rest
+line_on second v (Bad fault) lines film rest = said_on second v (record { line = fault.line; said = bad_said fault.micros fault.code }) lines film rest
+
+-- and where a settled second before it ends the film, whatever comes
+pub line_over : {n : Network} {until : Bool} {last ended text : List ℕ} (window second : ℕ) (v : View) (line : TimedLine) (lines : List LineSaid)
+    → QuietFilm n until last second v (seconds_before second line) true ended text → FilmFrom n window until last second v (with_line line lines) (record { text = text; status = Settled })
+line_over window second v Skipped lines film = absurd (omega (arith, film.1.1))
+line_over window second v (Record r) lines film = film_over window second film.1.0 v (record { line = r.line; said = captured r.micros (timed_capture r) }) lines film.0 film.1.1 film.1.2
+line_over window second v (Bad fault) lines film = film_over window second film.1.0 v (record { line = fault.line; said = bad_said fault.micros fault.code }) lines film.0 film.1.1 film.1.2

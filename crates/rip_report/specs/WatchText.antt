@@ -1,18 +1,21 @@
 -- What `watch` prints.
 use Rattle.std.specs.Prelude.{◌≡◌, ◌≢◌, ℕ, ◌+◌, ◌-◌, ◌/◌, ◌<◌, nat_lt, if◌then◌else◌, zero, suc, Bool, true, false, List, [], ◌∷◌, ◌++◌, All, codes, Option, Some, None}
 use Rattle.rip_plan.specs.Network.{Network}
-use Rattle.rip_log.specs.TimedCall.{timed_said_of}
+use Rattle.rip_log.specs.TimedCall.{bad_said, timed_capture, timed_said_of}
 use Rattle.rip_log.specs.TimedText.{TimedSaid, captured, bad, untimed}
+use Rattle.rip_log.specs.declared.error.LogCode.{LogCode}
 use Rattle.rip_log.specs.declared.timed.reader.TimedLine.{TimedLine}
+use Rattle.rip_log.specs.declared.timed.reader.TimedLine.TheVariants.{Bad, Record, Skipped}
+use Rattle.rip_table.specs.declared.scene.LineCause.TheVariants.{Log}
 use Rattle.rip_log.specs.Times.{IsSecondText}
-use Rattle.rip_table.specs.Scenes.{View, after_said, closed_view, passed_view}
+use Rattle.rip_table.specs.Scenes.{View, after_said, closed_view, new_view, passed_view}
 use Rattle.rip_table.specs.Window.{shown}
 use Rattle.rip_table.specs.declared.scene.Episode.{Episode}
 use Rattle.rip_report.specs.AuditText.{VerdictText}
 use Rattle.rip_report.specs.RefusalText.{refusal_line}
 use Rattle.rip_report.specs.Written.{Written}
 use Rattle.rip_report.specs.declared.status.Status.{Status}
-use Rattle.rip_report.specs.declared.status.Status.TheVariants.{Refused, Settled}
+use Rattle.rip_report.specs.declared.status.Status.TheVariants.{Refused, Settled, Unclear}
 
 -- the verdict of a second: the line of the episode's first refusal, or the verdict on what is shown
 pub data SceneText (n : Network) (v : View) : Written → Type 0 where
@@ -137,3 +140,23 @@ pub data FilmFrom (n : Network) (window : ℕ) (until : Bool) (last : List ℕ) 
       → seconds_of n window second v lines ≡ before ++ after
       → FilmToSettled n last before ended text
       → FilmFrom n window until last second v lines (record { text = text; status = Settled })
+
+-- What is printed for the lines of a log: where there is none, nothing; where the first has no time,
+-- its refusal; or else the film that begins in its second.
+pub data Watched (n : Network) (window : ℕ) (until : Bool) : List LineSaid → Written → Type 0 where
+  no_line : Watched n window until [] (record { text = []; status = Unclear })
+  no_time : (l : LineSaid) (lines : List LineSaid) (code : LogCode) → l.said ≡ untimed code
+      → Watched n window until (l ∷ lines)
+      (record { text = refusal_line l.line (Log code); status = Refused })
+  a_film : (l : LineSaid) (lines : List LineSaid) (second : ℕ) (w : Written)
+      → own_second l.said ≡ Some second
+      → FilmFrom n window until [] second (new_view n) (l ∷ lines) w
+      → Watched n window until (l ∷ lines) w
+
+-- lines, the first of which is lent, unless it is skipped
+abbrev pub with_line : TimedLine → List LineSaid → List LineSaid
+with_line Skipped lines = lines
+with_line (Record r) lines =
+    record { line = r.line; said = captured r.micros (timed_capture r) } ∷ lines
+with_line (Bad fault) lines =
+    record { line = fault.line; said = bad_said fault.micros fault.code } ∷ lines
