@@ -45,9 +45,9 @@ AreTimedParts line room other = Unit {0}
 -- the time that was found, if there is one, is of the years to 9999
 abbrev pub IsEarlySplit : TimedFields → Type 0
 IsEarlySplit (split.Four micros link sender digits) = micros ≤ MOST_MICROS
-IsEarlySplit other = Unit {0}
+IsEarlySplit _ = Unit {0}
 
 abbrev pub IsEarlyJudged : Judged → Type 0
 IsEarlyJudged (Record micros parts) = micros ≤ MOST_MICROS
 IsEarlyJudged (Bad micros why) = micros ≤ MOST_MICROS
-IsEarlyJudged other = Unit {0}
+IsEarlyJudged _ = Unit {0}

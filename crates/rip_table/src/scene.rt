@@ -121,29 +121,29 @@ impl<T: WindowTable> Scene<T> {
         &mut self,
         plan: &Plan,
         length: WindowLength,
-        record: &TimedRecord<'_>,
+        found: &TimedRecord<'_>,
     ) -> Result<(), TableError>
         requires { Fits plan.now (shown (view_of T.window self.old).window) }
         ensures hears { OnOk result (view_of T.window self.new
-            ≡ after_said plan.now length record.now.line
-            (captured record.now.micros (timed_capture record.now)) (view_of T.window self.old)) }
+            ≡ after_said plan.now length found.now.line
+            (captured found.now.micros (timed_capture found.now)) (view_of T.window self.old)) }
         ensures kept { OnErr result (view_of T.window self.new ≡ view_of T.window self.old) }
         ensures memory { IfErr result (λ error. error ≡ TableError.Memory) }
         ensures fits { Fits plan.now (shown (view_of T.window self.new).window) }
     {
-        let interface = self.recent.find(plan, record.link, record.sender());
-        match (record.datagram.kind(), interface) {
+        let interface = self.recent.find(plan, found.link, found.sender());
+        match (found.datagram.kind(), interface) {
             (Kind::Request, _) => Ok(()),
             (Kind::Response, None) => {
-                self.refuse(length, record.line, LineCause::UnknownSender);
+                self.refuse(length, found.line, LineCause::UnknownSender);
                 Ok(())
             }
             (Kind::Response, Some(interface)) => {
-                match self.table.tell(plan, length, interface, &record.datagram) {
+                match self.table.tell(plan, length, interface, &found.datagram) {
                     Ok(()) => Ok(()),
                     Err(TableError::Memory) => Err(TableError::Memory),
                     Err(error) => {
-                        self.refuse(length, record.line, LineCause::Table(error));
+                        self.refuse(length, found.line, LineCause::Table(error));
                         Ok(())
                     }
                 }
