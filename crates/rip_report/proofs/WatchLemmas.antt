@@ -331,8 +331,7 @@ film_line {n = n} {window = window} {last = last} {text = before} second v l lin
 film_line {n = n} {last = last} {text = first} second v l lines film (FilmFrom.to_settled text ended before after is seconds settled) =
     let front = quiet n (later_second second (own_second l.said) - second) second v in
     FilmFrom.to_settled (first ++ text) ended (front ++ before) after is
-    (ap (λ (xs : List (ℕ × View)). front ++ xs) seconds ∙ sym (append_assoc front before after))
-    (
+    (ap (λ (xs : List (ℕ × View)). front ++ xs) seconds ∙ sym (append_assoc front before after)) (
       film.0 ++ settled.0,
       subst (λ (ss : List Status). Shots n last (front ++ before) (first ++ text) ended ss) (sym (append_assoc film.0 settled.0 (Settled ∷ []))) (shots_then film.1 settled.1),
       both_not film.0 settled.0 (film.2 is) settled.2,

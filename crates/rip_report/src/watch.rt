@@ -10,7 +10,7 @@ ghost use Rattle.rip_table.specs.Scenes.{LastsFor, after_line, closed_view};
 ghost use Rattle.rip_table.specs.SceneViews.{view_of};
 ghost use Rattle.rip_report.specs.AuditText.{IsJudged};
 ghost use Rattle.rip_report.specs.Finished.{AddsWritten};
-ghost use Rattle.rip_report.specs.Outs.{AddsOne};
+ghost use Rattle.rip_report.specs.Outs.{AddsOne, HasGoneOut};
 ghost use Rattle.rip_report.specs.WatchText.{IsShot, LineBegun, QuietBegun, QuietFilm, SceneText, after_quiet, later_second, line_second, seconds_before};
 
 use crate::audit::add_audit;
@@ -135,6 +135,7 @@ impl<T: WindowTable> Film<T> {
             (IsShot plan.now self.old.second (view_of T.window self.new.scene) self.old.last.items
             (record { text = self.new.last.items; status = status }))) }
         ensures nothing { OnErr result (out.new ≡ out.old) }
+        ensures sent { HasGoneOut out.old → HasGoneOut out.new }
         ensures view { view_of T.window self.new.scene
             ≡ closed_view plan.now (view_of T.window self.old.scene) }
         ensures second { self.new.second ≡ self.old.second }
@@ -169,6 +170,7 @@ impl<T: WindowTable> Film<T> {
             count settled self.new.last.items)) }
         ensures begun { OnErr result (AddsOne out.old out.new (QuietBegun plan.now until_settled
             self.old.last.items self.old.second (view_of T.window self.old.scene) count)) }
+        ensures sent { HasGoneOut out.old → HasGoneOut out.new }
         ensures view { result ≡ Ok false → view_of T.window self.new.scene
             ≡ after_quiet plan.now count (view_of T.window self.old.scene) }
         ensures second { result ≡ Ok false → self.new.second ≡ self.old.second + count }
@@ -206,6 +208,7 @@ impl<T: WindowTable> Film<T> {
         ensures begun { OnErr result (AddsOne out.old out.new (QuietBegun plan.now
             watching.until_settled self.old.last.items self.old.second
             (view_of T.window self.old.scene) (to - self.old.second))) }
+        ensures sent { HasGoneOut out.old → HasGoneOut out.new }
         ensures view { result ≡ Ok false → view_of T.window self.new.scene
             ≡ after_quiet plan.now (to - self.old.second) (view_of T.window self.old.scene) }
         ensures second { result ≡ Ok false → self.new.second ≡ to }
@@ -242,6 +245,7 @@ impl<T: WindowTable> Film<T> {
         ensures begun { OnErr result (AddsOne out.old out.new (LineBegun plan.now
             watching.until_settled self.old.last.items self.old.second
             (view_of T.window self.old.scene) (seconds_before self.old.second line.now))) }
+        ensures sent { HasGoneOut out.old → HasGoneOut out.new }
         ensures view { result ≡ Ok false → view_of T.window self.new.scene
             ≡ after_line plan.now watching.length line.now (after_quiet plan.now
             (seconds_before self.old.second line.now) (view_of T.window self.old.scene)) }

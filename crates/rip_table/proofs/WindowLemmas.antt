@@ -13,7 +13,7 @@ use Rattle.rip_plan.specs.Relations.{IsLawful}
 use Rattle.rip_plan.specs.Passes.{same_prefix}
 use Rattle.rip_table.specs.State.{Fits, IsShown, IsState, State, is_among, new_state}
 use Rattle.rip_table.specs.Joined.{Takes, joined_message, with_heard}
-use Rattle.rip_table.specs.Numbers.{AreFaultless}
+use Rattle.rip_table.specs.Numbers.{AreFaultless, IsChecked}
 use Rattle.rip_table.specs.Rows.{AreMade, IsGrid, Rows, cell, heads, planned_rows, shown_after}
 use Rattle.rip_table.specs.Window.{Tells, Window, Word, new_window, passed, passed_word, shown, told_message, window_after, with_words, without_shown, word_or}
 use Rattle.rip_table.specs.WindowRows.{new_word, passed_rows, window_of}
@@ -24,6 +24,8 @@ use Rattle.rip_table.proofs.CellLemmas.{cell-planned, set_at}
 use Rattle.rip_table.proofs.RowLemmas.{grid-tail, grid_cons, heads-planned, length-empty}
 use Rattle.rip_table.proofs.FitLemmas.{Fits-new, Fits-taken}
 use Rattle.rip_table.proofs.NewLemmas.{empty-is}
+use Rattle.rip_table.proofs.TakingLemmas.{entries-memory, is_memory_fault}
+use Rattle.std.specs.List.{slice_get}
 
 same_number : (i : ℕ) → (i == i) ≡ true
 same_number i = by (i == i) refl
@@ -131,9 +133,8 @@ response_told : (net : Network) (seconds i : ℕ) (w : Window) (m : Message) (es
 response_told net seconds i w m es is = ap (told_message net seconds i w) is
 
 refused_as : (net : Network) (seconds i : ℕ) (w : Window) (m : Message) (es : List Entry) (e : TableError) → m ≡ response es
-    → joined_message net i (without_shown i (shown w)) m ≡ Err e → told_message net seconds i w m ≡ Err e
-refused_as net seconds i w m es e is h =
-    response_told net seconds i w m es is ∙ ap (window_after seconds i w) (sym (ap (joined_message net i (without_shown i (shown w))) is) ∙ h)
+    → joined_message net i (without_shown i (shown w)) (response es) ≡ Err e → told_message net seconds i w m ≡ Err e
+refused_as net seconds i w m es e is h = response_told net seconds i w m es is ∙ ap (window_after seconds i w) h
 
 memory_told : (net : Network) (seconds i : ℕ) (w : Window) (m : Message) (es : List Entry) → m ≡ response es
     → is_ok (joined_message net i (without_shown i (shown w)) m) ≡ true → is_ok (told_message net seconds i w m) ≡ true
@@ -145,19 +146,30 @@ memory_told net seconds i w m es is h =
     ok_after (Ok t) h = h
     ok_after (Err e) h = h
 
--- where memory is refused to a response without a bad entry
+-- where memory is refused to a response without a bad entry that brings a prefix
 pub told-memory : (net : Network) (seconds i : ℕ) (w new : Window) (m : Message) (es : List Entry) → m ≡ response es
-    → AreFaultless net i (without_shown i (shown w)) es → new ≡ w → Tells net seconds i w m new (Err Memory)
-told-memory net seconds i w new m es is checked same =
-    (same, memory_told net seconds i w m es is (ap (λ (x : Message). is_ok (joined_message net i (without_shown i (shown w)) x)) is ∙ ap is_ok checked.1))
+    → AreFaultless net i (without_shown i (shown w)) es → (k : ℕ) (e : Entry) → slice_get es k ≡ Some e → is_among e.prefix w.prefixes ≡ false → new ≡ w → Tells net seconds i w m new (Err Memory)
+told-memory net seconds i w new m es is checked k e at lacks same = (
+  same,
+  record {
+    entries = es;
+    says = is;
+    good = memory_told net seconds i w m es is (ap (λ (x : Message). is_ok (joined_message net i (without_shown i (shown w)) x)) is ∙ ap is_ok checked.1);
+    number = k;
+    entry = e;
+    at = at;
+    lacks = lacks;
+  },
+)
 
 -- what is refused of a table as if the interface had shown nothing is refused
 pub told-refused : (net : Network) (seconds i : ℕ) (w : Window) (m : Message) (es : List Entry) (e : TableError) → m ≡ response es
-    → Takes net i (without_shown i (shown w)) m (without_shown i (shown w)) (Err e) → Tells net seconds i w m w (Err e)
-told-refused net seconds i w m es Memory is h = (refl, memory_told net seconds i w m es is h.1.good)
-told-refused net seconds i w m es (Changed p x y) is h = (refl, refused_as net seconds i w m es (Changed p x y) is h.1)
-told-refused net seconds i w m es (NextHop p) is h = (refl, refused_as net seconds i w m es (NextHop p) is h.1)
-told-refused net seconds i w m es TooManyPrefixes is h = (refl, refused_as net seconds i w m es TooManyPrefixes is h.1)
+    → IsChecked net i (without_shown i (shown w)) es (Err e) → Tells net seconds i w m w (Err e)
+told-refused net seconds i w m es Memory is h =
+    let k : true ≡ false = sym (ap is_memory_fault h) ∙ entries-memory net i (with_heard (without_shown i (shown w)) i) es in absurd (cc k)
+told-refused net seconds i w m es (Changed p x y) is h = (refl, refused_as net seconds i w m es (Changed p x y) is h)
+told-refused net seconds i w m es (NextHop p) is h = (refl, refused_as net seconds i w m es (NextHop p) is h)
+told-refused net seconds i w m es TooManyPrefixes is h = (refl, refused_as net seconds i w m es TooManyPrefixes is h)
 
 pub told-taken : (net : Network) (seconds i : ℕ) (w new : Window) (m : Message) (es : List Entry) → m ≡ response es
     → (checked : AreFaultless net i (without_shown i (shown w)) es) → new ≡ with_words seconds i w checked.0 → Tells net seconds i w m new (Ok tt)

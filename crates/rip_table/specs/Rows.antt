@@ -79,6 +79,12 @@ AreRowNumbers rows entries row_numbers =
     (j : ℕ) (e : Entry) → slice_get entries j ≡ Some e
     → number_of_prefix e.prefix (heads rows) ≡ Some (slice_index_or row_numbers j 0)
 
+-- an entry is of a prefix that has no row
+abbrev pub BringsRow : {Cell : Type 0} → Rows Cell → List Entry → Type 0
+BringsRow rows entries =
+    (k : ℕ) × (e : Entry) × (slice_get entries k ≡ Some e)
+    × (is_among e.prefix (heads rows) ≡ false)
+
 -- the entries of interface i made their cells, in the rows of their prefixes
 pub record AreMade {Cell : Type 0} (blank : Cell) (made : ℕ → Cell) (width i : ℕ)
     (entries : List Entry) (old new : Rows Cell) : Type 0 where

@@ -3,12 +3,13 @@ use Rattle.std.specs.Prelude.{◌≡◌, ℕ, ◌-◌, ◌≤◌, nat_lt, if◌t
 use Rattle.rip_wire.specs.Message.{Message, request, response}
 use Rattle.rip_wire.specs.Prefix.{Block}
 use Rattle.rip_plan.specs.Network.{Network}
+use Rattle.rip_log.specs.Lines.{Capture}
 use Rattle.rip_log.specs.TimedCall.{bad_said, timed_capture}
 use Rattle.rip_log.specs.TimedText.{TimedSaid, captured, bad, untimed}
 use Rattle.rip_log.specs.declared.timed.reader.TimedLine.{TimedLine}
 use Rattle.rip_log.specs.declared.timed.reader.TimedLine.TheVariants.{Skipped, Record, Bad}
 use Rattle.rip_table.specs.Joined.{interface_of, message_of_capture}
-use Rattle.rip_table.specs.Window.{Window, Word, forgotten, new_window, passed, told_message}
+use Rattle.rip_table.specs.Window.{MayGrow, Window, Word, forgotten, new_window, passed, told_message}
 use Rattle.rip_table.specs.declared.error.CollectCause.{CollectCause}
 use Rattle.rip_table.specs.declared.error.CollectCause.TheVariants as causes
 use Rattle.rip_table.specs.declared.error.TableError.{TableError}
@@ -74,6 +75,16 @@ after_line n seconds (Record r) v =
     after_said n seconds r.line (captured r.micros (timed_capture r)) v
 after_line n seconds (Bad fault) v =
     after_said n seconds fault.line (bad_said fault.micros fault.code) v
+
+-- the table may allocate for a capture: for a response of an interface that brings a prefix
+abbrev pub MayGrowFor : Network → ℕ → Capture → Window → Type 0
+MayGrowFor n seconds c w =
+    (i : ℕ) × (interface_of n c ≡ Some i) × MayGrow n seconds i w (message_of_capture c)
+
+-- and for a line that is lent
+abbrev pub MayGrowAt : Network → ℕ → TimedLine → Window → Type 0
+MayGrowAt n seconds (Record r) w = MayGrowFor n seconds (timed_capture r) w
+MayGrowAt n seconds _ w = ⊥
 
 -- ---- a second
 

@@ -1,8 +1,9 @@
 -- A table that forgets: of each interface and prefix the metric that was shown last, and for how
 -- many seconds it is still shown.
-use Rattle.std.specs.Prelude.{ℕ, zero, suc, ◌-◌, ◌==◌, ◌≡◌, nat_lt, Bool, true, false, ◌||◌, if◌then◌else◌, List, length, filter, Option, Some, None, is_some, option_map, Result, Ok, Err, is_ok}
+use Rattle.std.specs.Prelude.{ℕ, zero, suc, ◌-◌, ◌==◌, ◌≡◌, nat_lt, Bool, true, false, ◌||◌, if◌then◌else◌, List, length, filter, Option, Some, None, is_some, option_map, slice_get, Result, Ok, Err, is_ok}
 use Rattle.rip_wire.specs.Prefix.{Block}
 use Rattle.rip_wire.specs.Message.{Message, request, response}
+use Rattle.rip_wire.specs.declared.entry.Entry.{Entry}
 use Rattle.rip_plan.specs.Network.{Network}
 use Rattle.rip_table.specs.State.{State, is_among}
 use Rattle.rip_table.specs.Joined.{joined_message}
@@ -73,12 +74,23 @@ told_message n seconds i w (response es) =
     window_after seconds i w
     (joined_message n i (without_shown i (shown w)) (response es))
 
+-- a response without a bad entry, of which an entry is of a prefix that the table lacks: it may
+-- allocate
+pub record MayGrow (n : Network) (seconds i : ℕ) (w : Window) (m : Message) : Type 0 where
+  pub entries : List Entry
+  pub says : m ≡ response entries
+  pub good : is_ok (told_message n seconds i w m) ≡ true
+  pub number : ℕ
+  pub entry : Entry
+  pub at : slice_get entries number ≡ Some entry
+  pub lacks : is_among entry.prefix w.prefixes ≡ false
+
 -- what `tell` answers and leaves
 abbrev pub Tells : Network → ℕ → ℕ → Window → Message → Window
     → Result (Unit {0}) TableError → Type 0
 Tells n seconds i old m new (Ok u) = told_message n seconds i old m ≡ Ok new
 Tells n seconds i old m new (Err Memory) =
-    (new ≡ old) × (is_ok (told_message n seconds i old m) ≡ true)
+    (new ≡ old) × MayGrow n seconds i old m
 Tells n seconds i old m new (Err (Changed p x y)) =
     (new ≡ old) × (told_message n seconds i old m ≡ Err (Changed p x y))
 Tells n seconds i old m new (Err (NextHop p)) =

@@ -13,7 +13,7 @@ pub enum TableError {
     Changed {
         /// The prefix of the entry.
         prefix: Prefix,
-        /// The metric that stands in the table.
+        /// The metric that stands in the table, or of an earlier entry.
         old: Metric,
         /// The metric of the entry.
         new: Metric,

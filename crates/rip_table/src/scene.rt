@@ -6,7 +6,7 @@ ghost use Rattle.rip_log.specs.TimedText.{captured};
 ghost use Rattle.rip_plan.specs.Network.{Network};
 ghost use Rattle.rip_table.specs.State.{Fits};
 ghost use Rattle.rip_table.specs.Window.{shown};
-ghost use Rattle.rip_table.specs.Scenes.{after_line, after_said, closed_view, passed_view, with_refusal};
+ghost use Rattle.rip_table.specs.Scenes.{MayGrowAt, MayGrowFor, after_line, after_said, closed_view, passed_view, with_refusal};
 
 use crate::error::{CollectCause, TableError};
 use crate::recent::Recent;
@@ -21,7 +21,7 @@ use rip_wire::Kind;
 pub enum LineCause {
     /// The line is bad.
     Log(LogCode),
-    /// The table refuses the response, and never for `Memory`.
+    /// The table refuses the response.
     Table(TableError),
     /// A response whose link and sender no interface of the plan has.
     UnknownSender,
@@ -129,6 +129,8 @@ impl<T: WindowTable> Scene<T> {
             (captured found.now.micros (timed_capture found.now)) (view_of T.window self.old)) }
         ensures kept { OnErr result (view_of T.window self.new ≡ view_of T.window self.old) }
         ensures memory { IfErr result (λ error. error ≡ TableError.Memory) }
+        ensures allocates { OnErr result (MayGrowFor plan.now length (timed_capture found.now)
+            (view_of T.window self.old).window) }
         ensures fits { Fits plan.now (shown (view_of T.window self.new).window) }
     {
         let interface = self.recent.find(plan, found.link, found.sender());
@@ -153,7 +155,7 @@ impl<T: WindowTable> Scene<T> {
 
     /// Takes in a line of the present second. What it shows lasts for a window's length, and so does
     /// an episode behind the last line that is refused. Memory comes only for a response without a
-    /// bad entry, and changes nothing.
+    /// bad entry that brings a prefix, and changes nothing.
     pub fn hear(
         &mut self,
         plan: &Plan,
@@ -165,6 +167,8 @@ impl<T: WindowTable> Scene<T> {
             ≡ after_line plan.now length line.now (view_of T.window self.old)) }
         ensures kept { OnErr result (view_of T.window self.new ≡ view_of T.window self.old) }
         ensures memory { IfErr result (λ error. error ≡ TableError.Memory) }
+        ensures allocates { OnErr result (MayGrowAt plan.now length line.now
+            (view_of T.window self.old).window) }
         ensures fits { Fits plan.now (shown (view_of T.window self.new).window) }
     {
         match line {

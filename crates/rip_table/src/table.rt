@@ -41,7 +41,8 @@ pub trait Table {
         ensures { (p : Block) → slice_get (state self.now).prefixes k ≡ Some p →
             result ≡ (state self.now).shows interface p };
 
-    /// Whether an interface is heard: whether a response of it was taken.
+    /// Whether an interface is heard: whether a response of it was taken, by a table that forgets in
+    /// one of the last so many seconds.
     fn heard(&self, interface: usize) -> bool
         requires { interface < (state self.now).interfaces }
         ensures { result ≡ (state self.now).heard interface };

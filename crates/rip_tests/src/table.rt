@@ -12,6 +12,7 @@ use std::process::Abort;
 mod events;
 mod growths;
 mod logs;
+mod scenes;
 mod windows;
 
 /// Three interfaces on two links, and a prefix.

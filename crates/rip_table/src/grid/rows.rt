@@ -1,12 +1,13 @@
 //! Rows of cells, one for each prefix, in a hashed map that keeps their order.
 
-ghost use Rattle.std.specs.Prelude.{◌≡◌, ◌<◌, ◌≤◌, ℕ, Bool, List, [], length, true, Some, IfOk, OnOk, OnErr, take};
+ghost use Rattle.std.specs.Prelude.{◌≡◌, ◌<◌, ◌≤◌, ℕ, Bool, List, [], length, true, false, Some, IfOk, OnOk, OnErr, take};
 ghost use Rattle.indexmap.specs.IndexMap.{index_map_len};
 ghost use Rattle.rip_plan.specs.Network.{number_of_prefix};
 ghost use Rattle.rip_wire.specs.Message.{response};
 ghost use Rattle.rip_table.specs.Joined.{brings_pair};
+ghost use Rattle.rip_table.specs.State.{is_among};
 ghost use Rattle.rip_table.specs.Numbers.{AreNumbers};
-ghost use Rattle.rip_table.specs.Rows.{AreRowNumbers, CanWrite, IsGrid, IsMade, IsWritten, cell, grid_state, heads, planned_rows, rows_of, shown_after, with_cell, with_row, with_rows};
+ghost use Rattle.rip_table.specs.Rows.{AreRowNumbers, BringsRow, CanWrite, IsGrid, IsMade, IsWritten, cell, grid_state, heads, planned_rows, rows_of, shown_after, with_cell, with_row, with_rows};
 
 use super::cell::{Cell, GridCell};
 use crate::judging::Numbers;
@@ -38,6 +39,8 @@ fn row_at<C: GridCell, S: BuildHasher>(
     ensures number { IfOk result (λ k.
         number_of_prefix prefix (heads (rows_of rows.new.entries)) ≡ Some k) }
     ensures err { OnErr result (rows.new.entries ≡ rows.old.entries) }
+    ensures allocates { OnErr result
+        (is_among prefix (heads (rows_of rows.old.entries)) ≡ false) }
 {
     if let Some(k) = number {
         return Ok(k);
@@ -69,6 +72,7 @@ fn grow<C: GridCell, S: BuildHasher>(
         (AreRowNumbers (rows_of rows.new.entries) entries.now row_numbers.new) }
     ensures front { take (index_map_len rows.old) (rows_of rows.new.entries)
         ≡ rows_of rows.old.entries }
+    ensures allocates { OnErr result (BringsRow (rows_of rows.old.entries) entries.now) }
 {
     for j in 0..entries.len() {
         let entry = entries[j];
@@ -94,6 +98,7 @@ fn grow_or_keep<C: GridCell, S: BuildHasher>(
     ensures row_numbers { OnOk result
         (AreRowNumbers (rows_of rows.new.entries) entries.now row_numbers.new) }
     ensures err { OnErr result (rows_of rows.new.entries ≡ rows_of rows.old.entries) }
+    ensures allocates { OnErr result (BringsRow (rows_of rows.old.entries) entries.now) }
 {
     let was = rows.len();
     match grow(alloc, rows, width, numbers, entries, row_numbers) {
@@ -168,6 +173,7 @@ pub(crate) fn add<C: GridCell, S: BuildHasher>(
     ensures made { IsMade C.blank_cell (C.cell_of term) width interface entries.now
         (rows_of rows.old.entries) (rows_of rows.new.entries) result }
     ensures grid { IsGrid width (rows_of rows.new.entries) }
+    ensures allocates { OnErr result (BringsRow (rows_of rows.old.entries) entries.now) }
 {
     let mut row_numbers = [0; MOST_ENTRIES];
     grow_or_keep(alloc, rows, width, numbers, entries, &mut row_numbers)?;

@@ -64,8 +64,7 @@ impl<T: Table> Table for Unshown<'_, T> {
     }
 }
 
-/// A table that shows for so many seconds what each interface showed last of each prefix, and then
-/// forgets it. Prefixes beside the plan's stand in the order in which they came.
+/// A table that forgets, in a hashed map: four bytes for each prefix and interface.
 #[derive(Drop)]
 pub struct GridWindow<S: BuildHasher> {
     alloc: Global,

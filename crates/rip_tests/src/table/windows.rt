@@ -13,7 +13,7 @@ use std::hash::{BuildHasherDefault, FoldHasher};
 use std::process::Abort;
 
 /// Three seconds.
-fn three(rt: &impl Abort) -> WindowLength {
+pub(super) fn three(rt: &impl Abort) -> WindowLength {
     WindowLength::new(3).expect(rt, "three seconds")
 }
 

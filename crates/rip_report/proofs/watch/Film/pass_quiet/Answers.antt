@@ -9,6 +9,7 @@ use Rattle.rip_report.proofs.watch.Film.pass_quiet.Goals as goal
 pub loop-init : goal.loop-init
 loop-init g c = record {
   film = adds_nothing (film_none c.args.plan.now c.args.until_settled c.args.self.now.last.items);
+  sent = λ gone. gone;
   view = refl;
   second = omega arith;
   fits = c.requires.fits;
@@ -52,6 +53,7 @@ loop-preserved g c =
           (subst (λ (u : View). IsShot n c.loop.self.second u c.loop.self.last.items (record { text = c.show.new.self.last.items; status = c.in_ok-status.status }) more) shown shot))
           (c.is_end.ensures.goes_on c.if-is_end.false)))
           c.loop.invariant.film c.in_ok-status.ensures.shot;
+      sent = λ gone. c.in_ok-status.ensures.sent (c.loop.invariant.sent gone);
       view = c.pass.ensures.view ∙ ap passed_view shown ∙ sym (after_more n k v) ∙ ap (λ (j : ℕ). after_quiet n j v) next;
       second = omega (arith, c.loop.invariant.second, c.in_ok-status.ensures.second);
       fits = c.pass.ensures.fits n c.in_ok-status.ensures.fits;

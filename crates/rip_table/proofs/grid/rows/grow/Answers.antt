@@ -1,4 +1,4 @@
-use Rattle.std.proofs.Common.{◌≡◌, ◌∙◌, ◌<◌, ◌≤◌, ◌+◌, ap, sym, ℕ, Bool, true, false, Some, List, length, set, take, drop, arith, refl, nat_lt, ◌≢◌, get_or-set_same, get_or-set_other}
+use Rattle.std.proofs.Common.{◌≡◌, ◌∙◌, ◌<◌, ◌≤◌, ◌+◌, ap, sym, ℕ, Bool, true, false, None, Option, Some, List, length, set, take, drop, arith, refl, nat_lt, ◌≢◌, get_or-set_same, get_or-set_other}
 use Rattle.std.proofs.lemmas.Bool.{ltb-true, ltb-false}
 use Rattle.std.proofs.Math.ListN.{length-set}
 use Rattle.std.specs.List.{slice_get, slice_index_or}
@@ -8,7 +8,9 @@ use Rattle.rip_wire.specs.declared.entry.Entry.{Entry}
 use Rattle.rip_plan.specs.Network.{number_of_prefix}
 use Rattle.rip_table.specs.Rows.{heads, rows_of, with_rows}
 use Rattle.rip_table.proofs.PrefixListLemmas.{drop-more}
-use Rattle.rip_table.proofs.NumberLemmas.{number-here}
+use Rattle.rip_table.proofs.NumberLemmas.{number-here, number-none, number-some, true-false}
+use Rattle.rip_table.proofs.TallyLemmas.{on_err}
+use Rattle.rip_table.specs.State.{is_among}
 use Rattle.rip_table.proofs.RowLemmas.{length-rows, with_row-front, with_row-keeps, with_row-longer}
 use Rattle.rip_table.proofs.grid.rows.grow.Goals as goal
 
@@ -66,3 +68,19 @@ pub returns-clause-row_numbers : goal.returns-clause-row_numbers
 returns-clause-row_numbers g c j e at =
     let es = c.args.entries.now in
     c.loop-j.invariant.row_numbers j e (omega (arith, slice_get_within es j e at, c.loop-j-test.false)) at
+
+-- a prefix without a row had none before
+absent_then : (p : Block) (old now : List Block) → ((k : ℕ) → number_of_prefix p old ≡ Some k → number_of_prefix p now ≡ Some k) → is_among p now ≡ false → is_among p old ≡ false
+absent_then p old now kept none = by (number_of_prefix p old) refl
+  where
+    by : (o : Option ℕ) → number_of_prefix p old ≡ o → is_among p old ≡ false
+    by None h = number-none p old h
+    by (Some k) h = true-false (is_among p now) (number-some p now k (kept k h)) none
+
+pub returns-in_err-row_numbers-clause-allocates : goal.returns-in_err-row_numbers-clause-allocates
+returns-in_err-row_numbers-clause-allocates g c =
+    let es = c.args.entries.now in
+    let e = c.index-entries-j.result in
+    let at = slice_get_read es (length es) c.loop-j.j e refl c.loop-j-test.true c.index-entries-j.is in
+    on_err c.from_residual.result _
+    (c.loop-j.j, e, at, absent_then e.prefix (heads (rows_of c.args.rows.now.entries)) (heads (rows_of c.loop-j.rows.entries)) (c.loop-j.invariant.kept e.prefix) c.in_err-row_numbers.ensures.allocates)

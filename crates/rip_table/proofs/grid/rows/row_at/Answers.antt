@@ -7,6 +7,7 @@ use Rattle.rip_plan.specs.Network.{number_of_prefix}
 use Rattle.rip_plan.specs.Passes.{same_prefix}
 use Rattle.rip_table.specs.Rows.{heads, rows_of}
 use Rattle.rip_table.proofs.NumberLemmas.{number-none, number-some}
+use Rattle.rip_table.proofs.TallyLemmas.{on_err}
 use Rattle.rip_table.proofs.RowLemmas.{Entries, heads-append, index-number, length-heads, length-rows, number-last, rows-append, with_row-new, with_row-old}
 use Rattle.indexmap.proofs.CallerLemmas.{insert_entry-new}
 use Rattle.rip_table.proofs.grid.rows.row_at.Goals as goal
@@ -53,3 +54,15 @@ returns-clause-number g c =
     ∙ ap (number_of_prefix c.args.prefix) (heads-append (rows_of es) (c.args.prefix, replicate c.args.width g.C.GridCell.blank_cell))
     ∙ number-last c.args.prefix (heads (rows_of es)) none
     ∙ ap (λ (k : ℕ). Some k) long
+
+pub returns-in_err-row-clause-allocates : goal.returns-in_err-row-clause-allocates
+returns-in_err-row-clause-allocates g c =
+    let es = c.args.rows.now.entries in
+    let none = sym (index-number c.args.prefix es) ∙ sym c.in_default-get_index_of.ensures.index in
+    on_err c.from_residual.result _ (number-none c.args.prefix (heads (rows_of es)) none)
+
+pub returns-in_err-insert-clause-allocates : goal.returns-in_err-insert-clause-allocates
+returns-in_err-insert-clause-allocates g c =
+    let es = c.args.rows.now.entries in
+    let none = sym (index-number c.args.prefix es) ∙ sym c.in_default-get_index_of.ensures.index in
+    on_err c.from_residual-in_err-insert.result _ (number-none c.args.prefix (heads (rows_of es)) none)

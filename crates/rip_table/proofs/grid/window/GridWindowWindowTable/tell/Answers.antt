@@ -10,7 +10,6 @@ use Rattle.rip_table.specs.Rows.{IsGrid, rows_of}
 use Rattle.rip_table.specs.Window.{Tells, Window, shown, without_shown}
 use Rattle.rip_table.specs.WindowRows.{window_of}
 use Rattle.rip_table.proofs.NumberLemmas.{response-is}
-use Rattle.rip_table.proofs.TakingLemmas.{refused}
 use Rattle.rip_table.proofs.WindowLemmas.{Fits-told, told-is, told-memory, told-refused, told-taken, told-valid}
 use Rattle.rip_table.proofs.grid.window.GridWindowWindowTable.tell.Goals as goal
 
@@ -27,7 +26,7 @@ returns-in_err-check-clause-tells g c =
     let is : c.from_residual.result ≡ Err (c.in_err-check.field-0).0 = search rules in
     let checked : IsChecked n i (without_shown i (shown (window_of heard rows))) es (Err (c.in_err-check.field-0).0) = c.in_err-check.ensures in
     subst (Tells n c.args.term i (window_of heard rows) m (window_of heard rows)) (sym is)
-    (told-refused n c.args.term i (window_of heard rows) m es (c.in_err-check.field-0).0 message (refused n i (without_shown i (shown (window_of heard rows))) m es (c.in_err-check.field-0).0 message checked))
+    (told-refused n c.args.term i (window_of heard rows) m es (c.in_err-check.field-0).0 message checked)
 
 pub returns-in_err-add-clause-tells : goal.returns-in_err-add-clause-tells
 returns-in_err-add-clause-tells g c =
@@ -43,7 +42,8 @@ returns-in_err-add-clause-tells g c =
     let checked : AreFaultless n i (without_shown i (shown (window_of heard rows))) es = (c.in_ok-check.ensures).0 in
     let new = window_of heard (rows_of c.add.new.rows.entries) in
     subst (Tells n c.args.term i (window_of heard rows) m new) (sym is)
-    (told-memory n c.args.term i (window_of heard rows) new m es message checked (ap (window_of heard) c.in_err-add.ensures.made))
+    (told-memory n c.args.term i (window_of heard rows) new m es message checked c.in_err-add.ensures.allocates.0 c.in_err-add.ensures.allocates.1 c.in_err-add.ensures.allocates.2 c.in_err-add.ensures.allocates.3
+    (ap (window_of heard) c.in_err-add.ensures.made))
 
 pub returns-clause-tells : goal.returns-clause-tells
 returns-clause-tells g c =
