@@ -14,7 +14,8 @@ use std::hash::{BuildHasherDefault, FoldHasher};
 use std::process::Abort;
 
 /// A metric, a bad line, a stranger, a comment, a request, and another metric.
-const LINES: &str = "2026-11-27T01:16:20.000000Z a 10.1.0.1 02020000000200000a010000ffff00000000000000000002
+const LINES: &str =
+    "2026-11-27T01:16:20.000000Z a 10.1.0.1 02020000000200000a010000ffff00000000000000000002
 2026-11-27T01:16:20.000000Z a 10.1.0.1 0202000
 2026-11-27T01:16:20.000000Z a 10.1.0.9 02020000000200000a010000ffff00000000000000000002
 # a comment

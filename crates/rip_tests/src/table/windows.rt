@@ -118,10 +118,7 @@ fn responses_are_refused_whole(rt: HostRuntime) {
         new: metric(&rt, 2),
     };
     assert!(rt; tell(&rt, &plan, &mut table, 0, &twice) == Err(changed));
-    let elsewhere = [
-        entry(&rt, 9, 1, "0.0.0.0"),
-        entry(&rt, 1, 1, "10.1.0.9"),
-    ];
+    let elsewhere = [entry(&rt, 9, 1, "0.0.0.0"), entry(&rt, 1, 1, "10.1.0.9")];
     let refused = TableError::NextHop {
         prefix: prefix(&rt, 1),
     };
