@@ -195,7 +195,7 @@ last_shot : {n : Network} {last text ended : List ℕ} {ys : List (ℕ × View)}
 last_shot [] second v (Shots.none last) is = absurd (cc is)
 last_shot (x ∷ xs) second v (Shots.none last) is = absurd (cc is)
 last_shot {n = n} [] second v (Shots.one last text more ended s u w seconds statuses shot rest) is =
-    let one : (s, u) ≡ (second, v) = cc is in
+    let one : ◌≡◌ {A = ℕ × View} (s, u) (second, v) = cc is in
     let none : seconds ≡ [] = cc is in
     record {
       verdict = w;
