@@ -20,7 +20,7 @@ use crate::status::Status;
 use rip_log::{Failed, IntoWrite, Sink, TimedLine, write_second};
 use rip_plan::Plan;
 use rip_table::laws::lasting_scenes;
-use rip_table::{Scene, Table, WindowLength, WindowTable};
+use rip_table::{Scene, WindowLength, WindowTable};
 use std::alloc::{AllocError, Global};
 
 /// Adds the verdict of a scene: the line of the first refusal, or the verdict on what is shown.

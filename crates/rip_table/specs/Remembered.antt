@@ -36,7 +36,7 @@ IsHeardBy seconds n taken i =
     (k : ℕ) × (t : Taken) × (slice_get taken k ≡ Some t) × (t.interface ≡ i)
     × (n < t.second + seconds)
 
--- a table shows in second n what is shown then
+-- a table shows in second n what is shown then; of its list of prefixes this says nothing
 pub record ShowsIn (seconds n : ℕ) (taken : List Taken) (s : State) : Type 0 where
   pub shows : (i : ℕ) (p : Block) (m : ℕ)
       → (s.shows i p ≡ Some m) ↔ IsShownBy seconds n taken i p m

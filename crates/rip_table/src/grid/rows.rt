@@ -157,7 +157,8 @@ fn write<C: GridCell, S: BuildHasher>(
     }
 }
 
-/// Makes the cells of a response's entries, or leaves the rows as they were. (Why so many arguments: DECISIONS.md.)
+/// Makes the cells of a response's entries, or leaves the rows as they were. (Why so many
+/// arguments: DECISIONS.md.)
 #[inline(never)]
 pub(crate) fn add<C: GridCell, S: BuildHasher>(
     alloc: Global,
