@@ -1,7 +1,7 @@
 -- What the lines of a log with times are, in the words of its format.
-use Rattle.std.specs.Prelude.{ℕ, ◌<◌, ◌≤◌, List, [], ◌∷◌, length, Option, Some, None}
+use Rattle.std.specs.Prelude.{◌≡◌, ◌⊎◌, ◌+◌, ℕ, ◌<◌, ◌≤◌, List, [], ◌∷◌, length, Option, Some, None}
 use Rattle.rip_log.specs.Lines.{Capture}
-use Rattle.rip_log.specs.LogText.{BadBy, HasFields, IsSkipped, RecordBy, SaysNothing}
+use Rattle.rip_log.specs.LogText.{AreLines, BadBy, HasFields, IsSkipped, RecordBy, SaysNothing}
 use Rattle.rip_log.specs.Times.{IsTimeText}
 use Rattle.rip_log.specs.declared.error.LogCode.{LogCode}
 use Rattle.rip_log.specs.declared.error.LogCode.TheVariants.{LongLine, Fields}
@@ -46,3 +46,22 @@ IsEarly None = Unit {0}
 IsEarly (Some (captured micros capture)) = micros ≤ MOST_MICROS
 IsEarly (Some (bad micros code)) = micros ≤ MOST_MICROS
 IsEarly (Some (untimed code)) = Unit {0}
+
+-- what a line says that is not skipped, with its number
+pub record LineSaid : Type 0 where
+  pub line : ℕ
+  pub said : TimedSaid
+
+-- what these lines say, of which n others come before: each that is not skipped, in order
+abbrev pub AreTimedSaid : ℕ → List (List ℕ) → List LineSaid → Type 0
+AreTimedSaid n [] said = said ≡ []
+AreTimedSaid n (line ∷ lines) [] = IsSkipped line × AreTimedSaid (n + 1) lines []
+AreTimedSaid n (line ∷ lines) (s ∷ said) =
+    (IsSkipped line × AreTimedSaid (n + 1) lines (s ∷ said))
+    ⊎ ((s.line ≡ n + 1) × SaysTimed line s.said × AreTimedSaid (n + 1) lines said)
+
+-- what the lines of a text say
+pub record TextSays (text : List ℕ) (said : List LineSaid) : Type 0 where
+  pub lines : List (List ℕ)
+  pub are_lines : AreLines text lines
+  pub are_said : AreTimedSaid 0 lines said

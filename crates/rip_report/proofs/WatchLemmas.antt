@@ -3,7 +3,7 @@ use Rattle.std.proofs.Common.{◌≡◌, ◌≢◌, ◌∙◌, ◌+◌, ◌-◌,
 use Rattle.std.specs.Prelude.{codes, option_map}
 use Rattle.std.proofs.lemmas.Bool.{ltb-true, ltb-false}
 use Rattle.rip_log.specs.TimedCall.{bad_said, timed_capture}
-use Rattle.rip_log.specs.TimedText.{TimedSaid, captured}
+use Rattle.rip_log.specs.TimedText.{LineSaid, TimedSaid, captured}
 use Rattle.rip_log.specs.declared.timed.reader.TimedLine.{TimedLine}
 use Rattle.rip_log.specs.declared.timed.reader.TimedLine.TheVariants.{Bad, Record, Skipped}
 use Rattle.rip_log.specs.Times.{IsSecondText}
@@ -15,7 +15,8 @@ use Rattle.rip_table.specs.declared.scene.Episode.{Episode}
 use Rattle.rip_table.specs.declared.scene.LineRefusal.{LineRefusal}
 use Rattle.rip_report.specs.AuditText.{VerdictText}
 use Rattle.rip_report.specs.RefusalText.{refusal_line}
-use Rattle.rip_report.specs.WatchText.{AreNotSettled, FilmFrom, FilmOf, FilmToSettled, IsShot, LineSaid, QuietFilm, SceneText, Shots, after_quiet, later_second, own_second, quiet, seconds_before, seconds_of, with_line}
+use Rattle.rip_table.specs.Seconds.{after_quiet, later_second, own_second, quiet, seconds_of}
+use Rattle.rip_report.specs.WatchText.{AreNotSettled, FilmFrom, FilmOf, FilmToSettled, IsShot, QuietFilm, SceneText, Shots, seconds_before, with_line}
 use Rattle.rip_report.specs.Outs.{Adds, AddsOne, Progress}
 use Rattle.rip_report.specs.declared.status.Status.{Status}
 use Rattle.rip_report.proofs.OutLemmas.{adds_nothing, adds_one, adds_then}

@@ -1,14 +1,15 @@
 -- What `watch` prints.
-use Rattle.std.specs.Prelude.{◌≡◌, ◌≢◌, ℕ, ◌+◌, ◌-◌, ◌/◌, ◌<◌, nat_lt, if◌then◌else◌, zero, suc, Bool, true, false, List, [], ◌∷◌, ◌++◌, All, codes, Option, Some, None}
+use Rattle.std.specs.Prelude.{◌≡◌, ◌≢◌, ℕ, ◌+◌, ◌-◌, ◌<◌, Bool, true, false, List, [], ◌∷◌, ◌++◌, All, codes, Option, Some, None}
 use Rattle.rip_plan.specs.Network.{Network}
 use Rattle.rip_log.specs.TimedCall.{bad_said, timed_capture, timed_said_of}
-use Rattle.rip_log.specs.TimedText.{TimedSaid, captured, bad, untimed}
+use Rattle.rip_log.specs.TimedText.{LineSaid, TimedSaid, captured, untimed}
 use Rattle.rip_log.specs.declared.error.LogCode.{LogCode}
 use Rattle.rip_log.specs.declared.timed.reader.TimedLine.{TimedLine}
 use Rattle.rip_log.specs.declared.timed.reader.TimedLine.TheVariants.{Bad, Record, Skipped}
 use Rattle.rip_table.specs.declared.scene.LineCause.TheVariants.{Log}
 use Rattle.rip_log.specs.Times.{IsSecondText}
-use Rattle.rip_table.specs.Scenes.{View, after_said, closed_view, new_view, passed_view}
+use Rattle.rip_table.specs.Scenes.{View, new_view}
+use Rattle.rip_table.specs.Seconds.{later_second, own_second, quiet, seconds_of}
 use Rattle.rip_table.specs.Window.{shown}
 use Rattle.rip_table.specs.declared.scene.Episode.{Episode}
 use Rattle.rip_report.specs.AuditText.{VerdictText}
@@ -43,17 +44,6 @@ pub data Shots (n : Network)
       → IsShot n second v last w text → Shots n w.text seconds more ended statuses
       → Shots n last ((second, v) ∷ seconds) (text ++ more) ended (w.status ∷ statuses)
 
--- so many seconds from this one on, in which no line comes
-abbrev pub quiet : Network → ℕ → ℕ → View → List (ℕ × View)
-quiet n zero second v = []
-quiet n (suc count) second v =
-    (second, closed_view n v) ∷ quiet n count (second + 1) (passed_view (closed_view n v))
-
--- what is to be seen behind them
-abbrev pub after_quiet : Network → ℕ → View → View
-after_quiet n zero v = v
-after_quiet n (suc count) v = after_quiet n count (passed_view (closed_view n v))
-
 -- no status is Settled
 abbrev pub AreNotSettled : List Status → Type 0
 AreNotSettled statuses = All (λ status. status ≢ Settled) statuses
@@ -85,31 +75,6 @@ QuietBegun n until last second v count text =
     × ((ended : List ℕ) × FilmOf n until last (quiet n k second v) ended text)
 
 -- ---- lines
-
--- a line that is not skipped: its number, and what it says
-pub record LineSaid : Type 0 where
-  pub line : ℕ
-  pub said : TimedSaid
-
--- the second of a line's time, if it has one
-abbrev pub own_second : TimedSaid → Option ℕ
-own_second (captured micros c) = Some (micros / 1_000_000)
-own_second (bad micros code) = Some (micros / 1_000_000)
-own_second (untimed code) = None
-
--- the second of a line: its own, or the one before, whichever is later
-abbrev pub later_second : ℕ → Option ℕ → ℕ
-later_second second None = second
-later_second second (Some own) = if nat_lt second own then own else second
-
--- What is to be seen at the end of each second, from the present one on to that of the last line.
-abbrev pub seconds_of : Network → ℕ → ℕ → View → List LineSaid → List (ℕ × View)
-seconds_of n window second v [] = (second, closed_view n v) ∷ []
-seconds_of n window second v (l ∷ lines) =
-    quiet n (later_second second (own_second l.said) - second) second v
-    ++ seconds_of n window (later_second second (own_second l.said))
-    (after_said n window l.line l.said
-    (after_quiet n (later_second second (own_second l.said) - second) v)) lines
 
 -- of a line that is lent: the second of its time, if it has one
 abbrev pub said_second : Option TimedSaid → Option ℕ

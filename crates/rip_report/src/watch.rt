@@ -8,10 +8,11 @@ ghost use Rattle.rip_table.specs.State.{Fits};
 ghost use Rattle.rip_table.specs.Window.{shown};
 ghost use Rattle.rip_table.specs.Scenes.{LastsFor, after_line, closed_view};
 ghost use Rattle.rip_table.specs.SceneViews.{view_of};
+ghost use Rattle.rip_table.specs.Seconds.{after_quiet, later_second};
 ghost use Rattle.rip_report.specs.AuditText.{IsJudged};
 ghost use Rattle.rip_report.specs.Finished.{AddsWritten};
 ghost use Rattle.rip_report.specs.Outs.{AddsOne, HasGoneOut};
-ghost use Rattle.rip_report.specs.WatchText.{IsShot, LineBegun, QuietBegun, QuietFilm, SceneText, after_quiet, later_second, line_second, seconds_before};
+ghost use Rattle.rip_report.specs.WatchText.{IsShot, LineBegun, QuietBegun, QuietFilm, SceneText, line_second, seconds_before};
 
 use crate::audit::add_audit;
 use crate::output::Out;

@@ -10,6 +10,7 @@ pub mod WindowRows
 pub mod WindowFacts
 pub mod Remembered
 pub mod Scenes
+pub mod Seconds
 pub mod SceneViews
 pub mod LogJoin
 pub mod Events

@@ -1,7 +1,8 @@
 use Rattle.std.proofs.Common.{◌≡◌, ◌∙◌, ◌+◌, ◌++◌, ℕ, suc, ap, sym, subst, arith, refl}
 use Rattle.rip_table.specs.SceneViews.{view_of}
 use Rattle.rip_table.specs.Scenes.{View, closed_view, passed_view}
-use Rattle.rip_report.specs.WatchText.{FilmOf, FilmToSettled, IsShot, after_quiet, quiet}
+use Rattle.rip_table.specs.Seconds.{after_quiet, quiet}
+use Rattle.rip_report.specs.WatchText.{FilmOf, FilmToSettled, IsShot}
 use Rattle.rip_report.proofs.OutLemmas.{adds_nothing}
 use Rattle.rip_report.proofs.WatchLemmas.{added_then, after_more, film_more, film_none, film_settled}
 use Rattle.rip_report.proofs.watch.Film.pass_quiet.Goals as goal

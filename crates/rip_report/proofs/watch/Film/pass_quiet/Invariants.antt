@@ -3,7 +3,8 @@ use Rattle.rip_table.specs.SceneViews.{view_of}
 use Rattle.rip_table.specs.State.{Fits}
 use Rattle.rip_table.specs.Window.{shown}
 use Rattle.rip_report.specs.Outs.{AddsOne, HasGoneOut}
-use Rattle.rip_report.specs.WatchText.{FilmOf, after_quiet, quiet}
+use Rattle.rip_table.specs.Seconds.{after_quiet, quiet}
+use Rattle.rip_report.specs.WatchText.{FilmOf}
 use Rattle.rip_report.proofs.watch.Film.pass_quiet.Given as goal
 
 abbrev pub invariant-loop : goal.invariant-loop

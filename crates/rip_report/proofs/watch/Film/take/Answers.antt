@@ -1,7 +1,8 @@
 use Rattle.std.proofs.Common.{◌≡◌, ◌∙◌, ◌-◌, ℕ, Bool, Ok, ap, subst, sym}
 use Rattle.rip_table.specs.SceneViews.{view_of}
 use Rattle.rip_table.specs.Scenes.{LastsFor, after_line}
-use Rattle.rip_report.specs.WatchText.{after_quiet, seconds_before}
+use Rattle.rip_table.specs.Seconds.{after_quiet}
+use Rattle.rip_report.specs.WatchText.{seconds_before}
 use Rattle.rip_report.proofs.WatchLemmas.{line_lasts}
 use Rattle.rip_report.proofs.watch.Film.take.Goals as goal
 
