@@ -4,6 +4,9 @@ pub mod LoopLemmas
 pub mod UnsettledLemmas
 pub mod VerdictLemmas
 pub mod WatchLemmas
+pub mod FilmLemmas
+pub mod TimedLineLemmas
+pub mod RightSecondLemmas
 pub mod EndLemmas
 pub mod ReportLemmas
 pub mod StopLemmas

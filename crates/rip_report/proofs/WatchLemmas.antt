@@ -1,7 +1,8 @@
 -- What the verdict of a second is.
-use Rattle.std.proofs.Common.{◌≡◌, ◌≢◌, ◌∙◌, ◌+◌, ◌-◌, ◌<◌, ◌≤◌, ◌++◌, min, nat_lt, [], ◌∷◌, ℕ, zero, suc, Bool, true, false, cond, inl, inr, ◌⊎◌, List, Option, Some, None, refl, sym, ap, subst, append_assoc, append-nil, arith}
+use Rattle.std.proofs.Common.{◌≡◌, ◌≢◌, ◌∙◌, ◌+◌, ◌-◌, ◌<◌, ◌≤◌, ◌++◌, min, nat_lt, [], ◌∷◌, ℕ, zero, suc, Bool, true, false, cond, inl, inr, ◌⊎◌, List, Option, Some, None, Result, Ok, Err, IfOk, refl, sym, ap, subst, append_assoc, append-nil, arith}
 use Rattle.std.specs.Prelude.{codes, option_map}
 use Rattle.std.proofs.lemmas.Bool.{ltb-true, ltb-false}
+use Rattle.std.specs.declared.alloc.AllocError.{AllocError}
 use Rattle.rip_log.specs.TimedCall.{bad_said, timed_capture}
 use Rattle.rip_log.specs.TimedText.{LineSaid, TimedSaid, captured}
 use Rattle.rip_log.specs.declared.timed.reader.TimedLine.{TimedLine}
@@ -13,10 +14,14 @@ use Rattle.rip_table.specs.Scenes.{LastsFor, View, after_line, after_said, close
 use Rattle.rip_table.specs.Window.{shown}
 use Rattle.rip_table.specs.declared.scene.Episode.{Episode}
 use Rattle.rip_table.specs.declared.scene.LineRefusal.{LineRefusal}
-use Rattle.rip_report.specs.AuditText.{VerdictText}
+use Rattle.rip_check.specs.Laws.{ShowsRightTables}
+use Rattle.rip_check.specs.Told.{told}
+use Rattle.rip_check.specs.Walks.{PacketsArrive}
+use Rattle.rip_report.specs.AuditText.{IsJudged, VerdictText}
 use Rattle.rip_report.specs.RefusalText.{refusal_line}
 use Rattle.rip_table.specs.Seconds.{after_quiet, later_second, own_second, quiet, seconds_of}
-use Rattle.rip_report.specs.WatchText.{AreNotSettled, FilmFrom, FilmOf, FilmToSettled, IsShot, QuietFilm, SceneText, Shots, seconds_before, with_line}
+use Rattle.rip_report.specs.Films.{QuietFilm}
+use Rattle.rip_report.specs.WatchText.{AreNotSettled, FilmOf, FilmToSettled, IsShot, SceneText, SettlesRightly, Shots}
 use Rattle.rip_report.specs.Outs.{Adds, AddsOne, Progress}
 use Rattle.rip_report.specs.declared.status.Status.{Status}
 use Rattle.rip_report.proofs.OutLemmas.{adds_nothing, adds_one, adds_then}
@@ -48,23 +53,43 @@ no_episode v h = by v.episode h
 pub scene_judged : (n : Network) (v : View) (s : State) → s ≡ shown v.window → v.episode ≡ None → (w : Written) → VerdictText n s false w → SceneText n v w
 scene_judged n v s same none w h = SceneText.of_table w none (subst (λ (t : State). VerdictText n t false w) same h)
 
+-- in an episode no second is settled
+pub settles_refused : (n : Network) (v : View) (r : LineRefusal) → first_in v.episode ≡ Some r → SettlesRightly n v Refused
+settles_refused n v r h = record {
+  right = (λ is. let same : Refused ≡ Settled = is in absurd (cc same), λ right. absurd (cc (h, right.0)));
+  arrive = λ is. let same : Refused ≡ Settled = is in absurd (cc same);
+}
+
+-- and in none it is by the table that is shown
+pub settles_judged : {result : Result Status AllocError} (n : Network) (v : View) (s : State) → s ≡ shown v.window → v.episode ≡ None → IfOk result (IsJudged n s) → IfOk result (SettlesRightly n v)
+settles_judged {result = Ok status} n v s same none judged = record {
+  right = (
+    λ settled. (none, subst (λ (t : State). ShowsRightTables n (told n t)) same (judged.settled.0 settled)),
+    λ right. judged.settled.1 (subst (λ (t : State). ShowsRightTables n (told n t)) (sym same) right.1),
+  );
+  arrive = λ settled. subst (λ (t : State). PacketsArrive n (told n t)) same (judged.arrive settled);
+}
+settles_judged {result = Err e} n v s same none judged = tt
+
 -- ---- a second
 
 -- what is printed where the verdict is another than before
-pub other_shot : {a b : Progress} {time text last : List ℕ} {status : Status} {second : ℕ} (n : Network) (v : View) → SceneText n v (record { text = text; status = status }) → text ≢ last
-    → IsSecondText second time → Adds a b (((time ++ codes " ") ++ text) ++ []) → AddsOne a b (IsShot n second v last (record { text = text; status = status }))
-other_shot {time = time} {text = text} n v verdict other is adds =
+pub other_shot : {a b : Progress} {time text last : List ℕ} {status : Status} {second : ℕ} (n : Network) (v : View) → SceneText n v (record { text = text; status = status })
+    → SettlesRightly n v status → text ≢ last → IsSecondText second time → Adds a b (((time ++ codes " ") ++ text) ++ []) → AddsOne a b (IsShot n second v last (record { text = text; status = status }))
+other_shot {time = time} {text = text} n v verdict settles other is adds =
     let whole : ((time ++ codes " ") ++ text) ++ [] ≡ time ++ codes " " ++ text = append-nil ((time ++ codes " ") ++ text) in
     adds_one (record {
       verdict = verdict;
+      settles = settles;
       same = λ same. absurd (other same);
       other = λ apart. (time, is, whole);
     }) adds
 
 -- and nothing where it is the same
 pub same_shot : {a : Progress} {text last : List ℕ} {status : Status} {second : ℕ} (n : Network) (v : View) → text ≡ last → SceneText n v (record { text = text; status = status })
-    → AddsOne a a (IsShot n second v last (record { text = last; status = status }))
-same_shot {last = last} {status = status} n v same verdict = adds_nothing (record {
+    → SettlesRightly n v status → AddsOne a a (IsShot n second v last (record { text = last; status = status }))
+same_shot {last = last} {status = status} n v same verdict settles = adds_nothing (record {
+  settles = settles;
   verdict = subst (λ (t : List ℕ). SceneText n v (record { text = t; status = status })) same verdict;
   same = λ is. refl;
   other = λ apart. absurd (apart refl);
@@ -80,7 +105,7 @@ shots_then {n = n} {c = c} {u = u} {ys = ys} {rs = rs} (Shots.one last text more
     (Shots.one last text (more ++ u) c second v w (seconds ++ ys) (statuses ++ rs) shot (shots_then rest later))
 
 -- one second
-shots_one : {n : Network} {last text : List ℕ} {second : ℕ} {v : View} {w : Written} → IsShot n second v last w text → Shots n last ((second, v) ∷ []) text w.text (w.status ∷ [])
+pub shots_one : {n : Network} {last text : List ℕ} {second : ℕ} {v : View} {w : Written} → IsShot n second v last w text → Shots n last ((second, v) ∷ []) text w.text (w.status ∷ [])
 shots_one {n = n} {last = last} {text = text} {second = second} {v = v} {w = w} shot =
     subst (λ (x : List ℕ). Shots n last ((second, v) ∷ []) x w.text (w.status ∷ [])) (append-nil text) (Shots.one last text [] w.text second v w [] [] shot (Shots.none w.text))
 
@@ -97,7 +122,7 @@ pub after_more : (n : Network) (k : ℕ) (v : View) → after_quiet n (suc k) v 
 after_more n zero v = refl
 after_more n (suc k) v = after_more n k (passed_view (closed_view n v))
 
-not_settled : (ss : List Status) (s : Status) → AreNotSettled ss → s ≢ Settled → AreNotSettled (ss ++ s ∷ [])
+pub not_settled : (ss : List Status) (s : Status) → AreNotSettled ss → s ≢ Settled → AreNotSettled (ss ++ s ∷ [])
 not_settled [] s h other zero d lt = other
 not_settled [] s h other (suc k) d lt = absurd (omega (arith, lt))
 not_settled (r ∷ ss) s h other zero d lt = h zero d (omega arith)
@@ -160,12 +185,13 @@ still_after n zero v still = refl
 still_after n (suc k) v still = ap (λ (u : View). after_quiet n k (passed_view u)) still.closes ∙ ap (after_quiet n k) still.passes ∙ still_after n k v still
 
 -- where the verdict is that of the second before, nothing is printed for however many seconds
-still_shots : (n : Network) (k second : ℕ) (v : View) (w : Written) → IsStill n v → SceneText n v w → (statuses : List Status) × Shots n w.text (quiet n k second v) [] w.text statuses × (w.status ≢ Settled → AreNotSettled statuses)
-still_shots n zero second v w still verdict = ([], Shots.none w.text, λ other k d lt. absurd (omega (arith, lt)))
-still_shots n (suc k) second v w still verdict =
-    let rest = still_shots n k (second + 1) v w still verdict in
+still_shots : (n : Network) (k second : ℕ) (v : View) (w : Written) → IsStill n v → SceneText n v w → SettlesRightly n v w.status → (statuses : List Status) × Shots n w.text (quiet n k second v) [] w.text statuses × (w.status ≢ Settled → AreNotSettled statuses)
+still_shots n zero second v w still verdict settles = ([], Shots.none w.text, λ other k d lt. absurd (omega (arith, lt)))
+still_shots n (suc k) second v w still verdict settles =
+    let rest = still_shots n k (second + 1) v w still verdict settles in
     let shot : IsShot n second (closed_view n v) w.text w [] = record {
       verdict = subst (λ (u : View). SceneText n u w) (sym still.closes) verdict;
+      settles = subst (λ (u : View). SettlesRightly n u w.status) (sym still.closes) settles;
       same = λ is. refl;
       other = λ apart. absurd (apart refl);
     } in
@@ -184,10 +210,11 @@ still_shots n (suc k) second v w still verdict =
 record LastShot (n : Network) (v : View) (ended : List ℕ) (statuses : List Status) : Type 0 where
   verdict : Written
   says : SceneText n v verdict
+  settles : SettlesRightly n v verdict.status
   ends : verdict.text ≡ ended
   status : AreNotSettled statuses → verdict.status ≢ Settled
 
-no_rest : {n : Network} {last more ended : List ℕ} {ys : List (ℕ × View)} {ss : List Status} → Shots n last ys more ended ss → ys ≡ [] → last ≡ ended
+pub no_rest : {n : Network} {last more ended : List ℕ} {ys : List (ℕ × View)} {ss : List Status} → Shots n last ys more ended ss → ys ≡ [] → last ≡ ended
 no_rest (Shots.none last) is = refl
 no_rest (Shots.one last text more ended second v w seconds statuses shot rest) is = absurd (cc is)
 
@@ -201,6 +228,7 @@ last_shot {n = n} [] second v (Shots.one last text more ended s u w seconds stat
     record {
       verdict = w;
       says = subst (λ (x : View). SceneText n x w) (ap (λ (x : ℕ × View). x.1) one) shot.verdict;
+      settles = subst (λ (x : View). SettlesRightly n x w.status) (ap (λ (x : ℕ × View). x.1) one) shot.settles;
       ends = no_rest rest none;
       status = λ h. h 0 w.status (omega arith);
     }
@@ -210,6 +238,7 @@ last_shot {n = n} (x ∷ xs) second v (Shots.one last text more ended s u w seco
     record {
       verdict = found.verdict;
       says = found.says;
+      settles = found.settles;
       ends = found.ends;
       status = λ h. found.status (λ k d lt. h (suc k) d (omega (arith, lt)));
     }
@@ -222,7 +251,7 @@ lasts_after passed closed n (suc k) v h =
     let next : suc k ≡ k + 1 = omega arith in
     lasts_after passed closed n k (passed_view (closed_view n v)) (passed k (closed_view n v) (subst (λ (m : ℕ). LastsFor m (closed_view n v)) next (closed n (suc k) v h)))
 
-both_not : (ss rs : List Status) → AreNotSettled ss → AreNotSettled rs → AreNotSettled (ss ++ rs)
+pub both_not : (ss rs : List Status) → AreNotSettled ss → AreNotSettled rs → AreNotSettled (ss ++ rs)
 both_not [] rs a b k d lt = b k d lt
 both_not (s ∷ ss) rs a b zero d lt = a zero d (omega arith)
 both_not (s ∷ ss) rs a b (suc k) d lt = both_not ss rs (λ j e below. a (suc j) e (omega (arith, below))) b k d (omega (arith, lt))
@@ -252,7 +281,7 @@ module _ (passed : (seconds : ℕ) (v : View) → LastsFor (seconds + 1) v → L
       → FilmOf n until last (quiet n (suc window + rest) second v) ended text
   skip_film until last ended text rest film =
       let shot = last_shot (quiet n window second v) (second + window) left film.1 (quiet_more n window second v) in
-      let more = still_shots n rest (second + suc window) left shot.verdict still shot.says in
+      let more = still_shots n rest (second + suc window) left shot.verdict still shot.says shot.settles in
       let later : Shots n ended (quiet n rest (second + suc window) (after_quiet n (suc window) v)) [] ended more.0 =
       subst (λ (u : View). Shots n ended (quiet n rest (second + suc window) u) [] ended more.0) (sym after_window)
       (subst (λ (t : List ℕ). Shots n t (quiet n rest (second + suc window) left) [] t more.0) shot.ends more.1) in (
@@ -317,106 +346,3 @@ module _ (said : (n : Network) (seconds line : ℕ) (said : TimedSaid) (v : View
   line_lasts Skipped k v h = quiet_lasts k v h
   line_lasts (Record r) k v h = said n window r.line (captured r.micros (timed_capture r)) (after_quiet n k v) some (quiet_lasts k v h)
   line_lasts (Bad fault) k v h = said n window fault.line (bad_said fault.micros fault.code) (after_quiet n k v) some (quiet_lasts k v h)
-
--- ---- the rest of a film
-
--- a line, behind the seconds before its own
-pub film_line : {n : Network} {window : ℕ} {until : Bool} {last mid text : List ℕ} (second : ℕ) (v : View) (l : LineSaid) (lines : List LineSaid) {w : Written}
-    → FilmOf n until last (quiet n (later_second second (own_second l.said) - second) second v) mid text
-    → FilmFrom n window until mid (later_second second (own_second l.said)) (after_said n window l.line l.said (after_quiet n (later_second second (own_second l.said) - second) v)) lines w
-    → FilmFrom n window until last second v (l ∷ lines) (record { text = text ++ w.text; status = w.status })
-film_line {n = n} {window = window} {last = last} {text = before} second v l lines film (FilmFrom.to_end text ended statuses status shots none) =
-    FilmFrom.to_end (before ++ text) ended (film.0 ++ statuses) status
-    (subst (λ (ss : List Status). Shots n last (seconds_of n window second v (l ∷ lines)) (before ++ text) ended ss) (sym (append_assoc film.0 statuses (status ∷ []))) (shots_then film.1 shots))
-    (λ is. subst AreNotSettled (sym (append_assoc film.0 statuses (status ∷ []))) (both_not film.0 (statuses ++ status ∷ []) (film.2 is) (none is)))
-film_line {n = n} {last = last} {text = first} second v l lines film (FilmFrom.to_settled text ended before after is seconds settled) =
-    let front = quiet n (later_second second (own_second l.said) - second) second v in
-    FilmFrom.to_settled (first ++ text) ended (front ++ before) after is
-    (ap (λ (xs : List (ℕ × View)). front ++ xs) seconds ∙ sym (append_assoc front before after)) (
-      film.0 ++ settled.0,
-      subst (λ (ss : List Status). Shots n last (front ++ before) (first ++ text) ended ss) (sym (append_assoc film.0 settled.0 (Settled ∷ []))) (shots_then film.1 settled.1),
-      both_not film.0 settled.0 (film.2 is) settled.2,
-    )
-
--- a second before that of a line that is settled, and ends it
-pub film_over : {n : Network} {until : Bool} {last ended text : List ℕ} (window second k : ℕ) (v : View) (l : LineSaid) (lines : List LineSaid) → until ≡ true
-    → k < later_second second (own_second l.said) - second → FilmToSettled n last (quiet n (k + 1) second v) ended text
-    → FilmFrom n window until last second v (l ∷ lines) (record { text = text; status = Settled })
-film_over {n = n} {ended = ended} {text = text} window second k v l lines is lt settled =
-    let count = later_second second (own_second l.said) - second in
-    let whole : count ≡ k + 1 + (count - (k + 1)) = omega (arith, lt) in
-    let rest = seconds_of n window (later_second second (own_second l.said)) (after_said n window l.line l.said (after_quiet n count v)) lines in
-    let later = quiet n (count - (k + 1)) (second + (k + 1)) (after_quiet n (k + 1) v) in
-    FilmFrom.to_settled text ended (quiet n (k + 1) second v) (later ++ rest) is
-    (ap (λ (xs : List (ℕ × View)). xs ++ rest) (ap (λ (m : ℕ). quiet n m second v) whole ∙ quiet_less n (k + 1) (count - (k + 1)) second v)
-    ∙ append_assoc (quiet n (k + 1) second v) later rest)
-    settled
-
--- the last second
-pub film_end : {n : Network} {window second : ℕ} {until : Bool} {last text : List ℕ} (v : View) {w : Written} → IsShot n second (closed_view n v) last w text
-    → FilmFrom n window until last second v [] (record { text = text; status = w.status })
-film_end {n = n} {window = window} {second = second} {until = until} {last = last} {text = text} v {w = w} shot = by until w.status refl
-  where
-    to_end : (b : Bool) → (b ≡ true → w.status ≢ Settled) → FilmFrom n window b last second v [] (record { text = text; status = w.status })
-    to_end b other = FilmFrom.to_end text w.text [] w.status (shots_one shot) (λ is. not_settled [] w.status (λ k d lt. absurd (omega (arith, lt))) (other is))
-
-    by : (b : Bool) (s : Status) → w.status ≡ s → FilmFrom n window b last second v [] (record { text = text; status = w.status })
-    by false s is = to_end false (λ e. absurd (cc e))
-    by true Settled is =
-        subst (λ (t : Status). FilmFrom n window true last second v [] (record { text = text; status = t })) (sym is)
-        (FilmFrom.to_settled text w.text ((second, closed_view n v) ∷ []) [] refl refl
-        ([], subst (λ (t : Status). Shots n last ((second, closed_view n v) ∷ []) text w.text (t ∷ [])) is (shots_one shot), λ k d lt. absurd (omega (arith, lt))))
-    by true Done is = to_end true (λ e settled. let k : Done ≡ Settled = sym is ∙ settled in absurd (cc k))
-    by true Unsettled is = to_end true (λ e settled. let k : Unsettled ≡ Settled = sym is ∙ settled in absurd (cc k))
-    by true Unclear is = to_end true (λ e settled. let k : Unclear ≡ Settled = sym is ∙ settled in absurd (cc k))
-    by true Refused is = to_end true (λ e settled. let k : Refused ≡ Settled = sym is ∙ settled in absurd (cc k))
-
--- ---- a line that is lent
-
-no_text : {n : Network} {last more ended : List ℕ} {ys : List (ℕ × View)} {ss : List Status} → Shots n last ys more ended ss → ys ≡ [] → more ≡ []
-no_text (Shots.none last) is = refl
-no_text (Shots.one last text more ended second v w seconds statuses shot rest) is = absurd (cc is)
-
-said_on : {n : Network} {window : ℕ} {until : Bool} {last mid text : List ℕ} (second : ℕ) (v : View) (l : LineSaid) (lines : List LineSaid) {w : Written}
-    → FilmOf n until last (quiet n (later_second second (own_second l.said) - second) second v) mid text
-    → FilmFrom n window until mid (second + (later_second second (own_second l.said) - second))
-    (after_said n window l.line l.said (after_quiet n (later_second second (own_second l.said) - second) v)) lines w
-    → FilmFrom n window until last second v (l ∷ lines) (record { text = text ++ w.text; status = w.status })
-said_on {n = n} {window = window} {until = until} {mid = mid} second v l lines {w = w} film rest =
-    let own = own_second l.said in
-    let later = later_second second own in
-    let here : second + (later - second) ≡ later = later_than second own in
-    film_line second v l lines film (subst (λ (s : ℕ). FilmFrom n window until mid s (after_said n window l.line l.said (after_quiet n (later - second) v)) lines w) here rest)
-  where
-    later_than : (second : ℕ) (own : Option ℕ) → second + (later_second second own - second) ≡ later_second second own
-    later_than second None = omega arith
-    later_than second (Some own) = by (nat_lt second own) refl
-      where
-        by : (b : Bool) → nat_lt second own ≡ b → second + (cond b own second - second) ≡ cond b own second
-        by true t = let more = ltb-true second own t in omega (arith, more)
-        by false t = omega arith
-
--- a line that was taken in goes before those to come
-pub line_on : {n : Network} {window : ℕ} {until : Bool} {last mid text : List ℕ} (second : ℕ) (v : View) (line : TimedLine) (lines : List LineSaid) {w : Written}
-    → FilmOf n until last (quiet n (seconds_before second line) second v) mid text
-    → FilmFrom n window until mid (second + seconds_before second line) (after_line n window line (after_quiet n (seconds_before second line) v)) lines w
-    → FilmFrom n window until last second v (with_line line lines) (record { text = text ++ w.text; status = w.status })
-line_on {n = n} {window = window} {until = until} {last = last} {mid = mid} {text = text} second v Skipped lines {w = w} film rest =
-    let none : second - second ≡ 0 = omega arith in
-    let here : second + (second - second) ≡ second = omega arith in
-    let seconds : quiet n (second - second) second v ≡ [] = ap (λ (m : ℕ). quiet n m second v) none in
-    let same : last ≡ mid = no_rest film.1 seconds in
-    let nothing : text ≡ [] = no_text film.1 seconds in
-    subst (λ (t : List ℕ). FilmFrom n window until last second v lines (record { text = t ++ w.text; status = w.status })) (sym nothing)
-    (subst (λ (t : List ℕ). FilmFrom n window until t second v lines w) (sym same)
-    (subst (λ (u : View). FilmFrom n window until mid second u lines w) (ap (λ (m : ℕ). after_quiet n m v) none)
-    (subst (λ (s : ℕ). FilmFrom n window until mid s (after_quiet n (second - second) v) lines w) here rest)))
-line_on second v (Record r) lines film rest = said_on second v (record { line = r.line; said = captured r.micros (timed_capture r) }) lines film rest
-line_on second v (Bad fault) lines film rest = said_on second v (record { line = fault.line; said = bad_said fault.micros fault.code }) lines film rest
-
--- and where a settled second before it ends the film, whatever comes
-pub line_over : {n : Network} {until : Bool} {last ended text : List ℕ} (window second : ℕ) (v : View) (line : TimedLine) (lines : List LineSaid)
-    → QuietFilm n until last second v (seconds_before second line) true ended text → FilmFrom n window until last second v (with_line line lines) (record { text = text; status = Settled })
-line_over window second v Skipped lines film = absurd (omega (arith, film.1.1))
-line_over window second v (Record r) lines film = film_over window second film.1.0 v (record { line = r.line; said = captured r.micros (timed_capture r) }) lines film.0 film.1.1 film.1.2
-line_over window second v (Bad fault) lines film = film_over window second film.1.0 v (record { line = fault.line; said = bad_said fault.micros fault.code }) lines film.0 film.1.1 film.1.2

@@ -32,3 +32,4 @@ pub mod CaptureText
 pub mod CaptureLogs
 pub mod CapturePackets
 pub mod WatchText
+pub mod Films

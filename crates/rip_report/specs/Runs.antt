@@ -16,10 +16,12 @@ use Rattle.rip_report.specs.Given.{IsGiven}
 use Rattle.rip_report.specs.Hearings.{EventsText, IsUnread}
 use Rattle.rip_report.specs.PlanText.{IsNoText, OfPlan}
 use Rattle.rip_report.specs.ReportText.{IsAccepted, LogMakes, ReportText}
-use Rattle.rip_report.specs.Sent.{Prints, WentOut}
+use Rattle.rip_report.specs.Films.{IsUnreadTo}
+use Rattle.rip_report.specs.Sent.{Prints, PrintsAlong, WentOut}
+use Rattle.rip_report.specs.WatchText.{WatchFront, WatchText}
 use Rattle.rip_report.specs.Written.{Written}
 use Rattle.rip_report.specs.declared.status.Status.{Status}
-use Rattle.rip_report.specs.declared.status.Status.TheVariants.{Refused}
+use Rattle.rip_report.specs.declared.status.Status.TheVariants.{Refused, Settled}
 use Rattle.rip_report.specs.declared.status.RunError.{RunError}
 use Rattle.rip_report.specs.declared.status.RunError.TheVariants.{Memory, Read}
 
@@ -122,5 +124,23 @@ pub record RunsToEnd {R K : Type 0} (source : SourceOf R) (sink : SinkOf K)
       Prints sink.taken sink.broken out run.1 run.2 (EventsText IsText plan text)
   -- Read only where the source has failed, or a line has more than 2^64 - 1 bytes
   pub reads : ReadsOn source.given source.coming source.broken source.at_end log run.0 run.2
+  -- if the plan is refused, the log is not touched; one that is no text never gives Memory
+  pub refuses : RefusesPlan plan log run.0 run.2
+
+-- a run on a plan and a log with times: what it prints for the lines, and for a beginning of them
+pub record RunsOnTimes {R K : Type 0} (source : SourceOf R) (sink : SinkOf K) (window : ℕ)
+    (until : Bool) (plan : List ℕ) (log : R) (out : K) (run : R × K × Result Status RunError)
+    : Type 0 where
+  -- the whole text went out, or a beginning of what is printed for a beginning of the log
+  pub prints : (text : List ℕ) → IsGiven source.given source.at_end log run.0 text →
+      PrintsAlong sink.taken sink.broken out run.1 run.2
+      (WatchText window until plan text) (WatchFront window until plan text)
+  pub draws : Draws source.given source.coming source.broken source.at_end log run.0 run.2
+  -- Read only where the source has failed, or a line or the number of lines has no end
+  pub read : (text : List ℕ) → IsGiven source.given source.at_end log run.0 text →
+      run.2 ≡ Err Read → IsUnreadTo (source.broken run.0) (Some text)
+  -- it ends before the source does only by a refusal, or where a settled second ends it
+  pub ended : IfOk run.2 (λ status. (until ≡ true → status ≢ Settled) → status ≢ Refused →
+      source.at_end run.0 ≡ true)
   -- if the plan is refused, the log is not touched; one that is no text never gives Memory
   pub refuses : RefusesPlan plan log run.0 run.2

@@ -1,5 +1,5 @@
 -- What has gone out of a text, by what a sink has taken before and after.
-use Rattle.std.specs.Prelude.{◌≡◌, ◌≢◌, ℕ, Bool, true, false, List, ◌++◌, Result, Err, IfOk, OnErr, OnOk, is_err}
+use Rattle.std.specs.Prelude.{◌≡◌, ◌≢◌, ◌⊎◌, ℕ, Bool, true, false, List, ◌++◌, Result, Err, IfOk, OnErr, OnOk, is_err}
 use Rattle.rip_log.specs.Taken.{Taken, Took}
 use Rattle.rip_log.specs.declared.device.Failed.{Failed}
 use Rattle.rip_report.specs.Written.{Written}
@@ -65,5 +65,25 @@ pub record Prints
   -- with Read and with Memory nothing went out
   pub read : result ≡ Err Read → Keeps (taken old) (taken new)
   pub memory : result ≡ Err Memory → Keeps (taken old) (taken new)
+  -- after every other answer it has failed only where it had before
+  pub sink : result ≢ Err Write → broken new ≡ broken old
+
+-- what a run leaves that prints one of these texts while it reads: where it gives up, a beginning of
+-- one of those went out
+pub record PrintsAlong
+    {K : Type 0}
+    (taken : K → Taken)
+    (broken : K → Bool)
+    (old new : K)
+    (result : Result Status RunError)
+    (IsText IsFront : Written → Type 0)
+    : Type 0 where
+  -- the whole text went out, and nothing else
+  pub text : IfOk result (WentOut IsText (taken old) (taken new))
+  -- nothing went out, or a beginning of what is printed for a beginning of the log
+  pub front : OnErr result
+      (Keeps (taken old) (taken new) ⊎ BeginningOut IsFront (taken old) (taken new))
+  -- the sink has failed
+  pub write : result ≡ Err Write → broken new ≡ true
   -- after every other answer it has failed only where it had before
   pub sink : result ≢ Err Write → broken new ≡ broken old

@@ -1,18 +1,19 @@
 -- What `watch` prints.
-use Rattle.std.specs.Prelude.{◌≡◌, ◌≢◌, ℕ, ◌+◌, ◌-◌, ◌<◌, Bool, true, false, List, [], ◌∷◌, ◌++◌, All, codes, Option, Some, None}
+use Rattle.std.specs.Prelude.{◌≡◌, ◌≢◌, ◌↔◌, ℕ, Bool, true, false, List, [], ◌∷◌, ◌++◌, All, codes, Some, None}
 use Rattle.rip_plan.specs.Network.{Network}
-use Rattle.rip_log.specs.TimedCall.{bad_said, timed_capture, timed_said_of}
-use Rattle.rip_log.specs.TimedText.{LineSaid, TimedSaid, captured, untimed}
-use Rattle.rip_log.specs.declared.error.LogCode.{LogCode}
-use Rattle.rip_log.specs.declared.timed.reader.TimedLine.{TimedLine}
-use Rattle.rip_log.specs.declared.timed.reader.TimedLine.TheVariants.{Bad, Record, Skipped}
-use Rattle.rip_table.specs.declared.scene.LineCause.TheVariants.{Log}
+use Rattle.rip_log.specs.TimedText.{LineSaid, TextSays, untimed}
 use Rattle.rip_log.specs.Times.{IsSecondText}
-use Rattle.rip_table.specs.Scenes.{View, new_view}
-use Rattle.rip_table.specs.Seconds.{later_second, own_second, quiet, seconds_of}
+use Rattle.rip_log.specs.declared.error.LogCode.{LogCode}
+use Rattle.rip_table.specs.Scenes.{View}
+use Rattle.rip_table.specs.Seconds.{log_seconds}
 use Rattle.rip_table.specs.Window.{shown}
+use Rattle.rip_check.specs.Laws.{ShowsRightTables}
+use Rattle.rip_check.specs.Told.{told}
+use Rattle.rip_check.specs.Walks.{PacketsArrive}
 use Rattle.rip_table.specs.declared.scene.Episode.{Episode}
+use Rattle.rip_table.specs.declared.scene.LineCause.TheVariants.{Log}
 use Rattle.rip_report.specs.AuditText.{VerdictText}
+use Rattle.rip_report.specs.PlanText.{OfPlan}
 use Rattle.rip_report.specs.RefusalText.{refusal_line}
 use Rattle.rip_report.specs.Written.{Written}
 use Rattle.rip_report.specs.declared.status.Status.{Status}
@@ -25,11 +26,21 @@ pub data SceneText (n : Network) (v : View) : Written → Type 0 where
   of_table : (w : Written) → v.episode ≡ None → VerdictText n (shown v.window) false w
       → SceneText n v w
 
+-- a second is right: nothing is refused, and what is shown shows right tables
+abbrev pub IsRightSecond : Network → View → Type 0
+IsRightSecond n v = (v.episode ≡ None) × ShowsRightTables n (told n (shown v.window))
+
+-- its verdict is Settled exactly where it is right, and then packets arrive
+pub record SettlesRightly (n : Network) (v : View) (status : Status) : Type 0 where
+  pub right : (status ≡ Settled) ↔ IsRightSecond n v
+  pub arrive : status ≡ Settled → PacketsArrive n (told n (shown v.window))
+
 -- What is printed for a second, where `last` is the verdict of the second before: its time and its
 -- verdict, unless the verdict is the same.
 pub record IsShot (n : Network) (second : ℕ) (v : View) (last : List ℕ) (w : Written)
     (text : List ℕ) : Type 0 where
   pub verdict : SceneText n v w
+  pub settles : SettlesRightly n v w.status
   pub same : w.text ≡ last → text ≡ []
   pub other : w.text ≢ last → (time : List ℕ) × IsSecondText second time
       × (text ≡ time ++ codes " " ++ w.text)
@@ -60,68 +71,51 @@ FilmToSettled n last seconds ended text =
     (statuses : List Status) × Shots n last seconds text ended (statuses ++ Settled ∷ [])
     × AreNotSettled statuses
 
--- what is printed for so many quiet seconds, or for those up to the first that is settled
-abbrev pub QuietFilm : Network → Bool → List ℕ → ℕ → View → ℕ → Bool → List ℕ → List ℕ → Type 0
-QuietFilm n until last second v count false ended text =
-    FilmOf n until last (quiet n count second v) ended text
-QuietFilm n until last second v count true ended text =
-    (until ≡ true) × ((k : ℕ) × (k < count)
-    × FilmToSettled n last (quiet n (k + 1) second v) ended text)
-
--- what is printed for the first of so many quiet seconds
-abbrev pub QuietBegun : Network → Bool → List ℕ → ℕ → View → ℕ → List ℕ → Type 0
-QuietBegun n until last second v count text =
-    (k : ℕ) × (k < count)
-    × ((ended : List ℕ) × FilmOf n until last (quiet n k second v) ended text)
-
--- ---- lines
-
--- of a line that is lent: the second of its time, if it has one
-abbrev pub said_second : Option TimedSaid → Option ℕ
-said_second None = None
-said_second (Some said) = own_second said
-
-abbrev pub line_second : TimedLine → Option ℕ
-line_second line = said_second (timed_said_of line)
-
--- how many seconds come before it, the present one with them
-abbrev pub seconds_before : ℕ → TimedLine → ℕ
-seconds_before second line = later_second second (line_second line) - second
-
--- what is printed for the first of so many quiet seconds, or for all
-abbrev pub LineBegun : Network → Bool → List ℕ → ℕ → View → ℕ → List ℕ → Type 0
-LineBegun n until last second v count = QuietBegun n until last second v (count + 1)
-
--- What is printed from a second on, where `last` is the verdict of the one before: for all seconds
--- up to that of the last line, of which none is settled where that would end it; or for those up to
--- the first that is, where that ends it.
-pub data FilmFrom (n : Network) (window : ℕ) (until : Bool) (last : List ℕ) (second : ℕ) (v : View)
-    (lines : List LineSaid) : Written → Type 0 where
-  to_end : (text ended : List ℕ) (statuses : List Status) (status : Status)
-      → Shots n last (seconds_of n window second v lines) text ended (statuses ++ status ∷ [])
-      → (until ≡ true → AreNotSettled (statuses ++ status ∷ []))
-      → FilmFrom n window until last second v lines (record { text = text; status = status })
-  to_settled : (text ended : List ℕ) (before after : List (ℕ × View)) → until ≡ true
-      → seconds_of n window second v lines ≡ before ++ after
-      → FilmToSettled n last before ended text
-      → FilmFrom n window until last second v lines (record { text = text; status = Settled })
-
 -- What is printed for the lines of a log: where there is none, nothing; where the first has no time,
--- its refusal; or else the film that begins in its second.
-pub data Watched (n : Network) (window : ℕ) (until : Bool) : List LineSaid → Written → Type 0 where
-  no_line : Watched n window until [] (record { text = []; status = Unclear })
-  no_time : (l : LineSaid) (lines : List LineSaid) (code : LogCode) → l.said ≡ untimed code
-      → Watched n window until (l ∷ lines)
-      (record { text = refusal_line l.line (Log code); status = Refused })
-  a_film : (l : LineSaid) (lines : List LineSaid) (second : ℕ) (w : Written)
-      → own_second l.said ≡ Some second
-      → FilmFrom n window until [] second (new_view n) (l ∷ lines) w
-      → Watched n window until (l ∷ lines) w
+-- its refusal; or else for all its seconds, of which none is settled where that would end it; or for
+-- those up to the first that is, where that ends it.
+pub data Watched (n : Network) (window : ℕ) (until : Bool) (said : List LineSaid)
+    : Written → Type 0 where
+  no_line : said ≡ [] → Watched n window until said (record { text = []; status = Unclear })
+  no_time : (first : LineSaid) (others : List LineSaid) (code : LogCode) → said ≡ first ∷ others
+      → first.said ≡ untimed code → Watched n window until said
+      (record { text = refusal_line first.line (Log code); status = Refused })
+  to_end : (text ended : List ℕ) (statuses : List Status) (status : Status)
+      → Shots n [] (log_seconds n window said) text ended (statuses ++ status ∷ [])
+      → (until ≡ true → AreNotSettled (statuses ++ status ∷ []))
+      → Watched n window until said (record { text = text; status = status })
+  to_settled : (text ended : List ℕ) (before after : List (ℕ × View)) → until ≡ true
+      → log_seconds n window said ≡ before ++ after → FilmToSettled n [] before ended text
+      → Watched n window until said (record { text = text; status = Settled })
 
--- lines, the first of which is lent, unless it is skipped
-abbrev pub with_line : TimedLine → List LineSaid → List LineSaid
-with_line Skipped lines = lines
-with_line (Record r) lines =
-    record { line = r.line; said = captured r.micros (timed_capture r) } ∷ lines
-with_line (Bad fault) lines =
-    record { line = fault.line; said = bad_said fault.micros fault.code } ∷ lines
+-- a second of a log is right: its last, or any where the first such ends a film
+abbrev pub EndsRight : Network → ℕ → Bool → List LineSaid → Type 0
+EndsRight n window until said =
+    (before after : List (ℕ × View)) × (second : ℕ) × (v : View)
+    × (log_seconds n window said ≡ before ++ (second, v) ∷ after)
+    × (until ≡ false → after ≡ []) × IsRightSecond n v
+
+-- all that is printed for them, or what is printed for the first of their seconds
+pub data WatchedFront (n : Network) (window : ℕ) (until : Bool) (said : List LineSaid)
+    (text : List ℕ) : Type 0 where
+  all : (status : Status) → Watched n window until said (record { text = text; status = status })
+      → WatchedFront n window until said text
+  seconds : (ended : List ℕ) (before after : List (ℕ × View))
+      → log_seconds n window said ≡ before ++ after → FilmOf n until [] before ended text
+      → WatchedFront n window until said text
+
+-- what is printed for the text of a log with times, and for a beginning of it
+abbrev pub WatchedLog : Network → ℕ → Bool → List ℕ → Written → Type 0
+WatchedLog n window until log w =
+    (said : List LineSaid) × TextSays log said × Watched n window until said w
+
+abbrev pub WatchedLogFront : Network → ℕ → Bool → List ℕ → Written → Type 0
+WatchedLogFront n window until log w =
+    (said : List LineSaid) × TextSays log said × WatchedFront n window until said w.text
+
+-- the same for the bytes of a plan: what refuses the plan, or what is printed for the log
+abbrev pub WatchText : ℕ → Bool → List ℕ → List ℕ → Written → Type 0
+WatchText window until plan log = OfPlan (λ n. WatchedLog n window until log) plan
+
+abbrev pub WatchFront : ℕ → Bool → List ℕ → List ℕ → Written → Type 0
+WatchFront window until plan log = OfPlan (λ n. WatchedLogFront n window until log) plan

@@ -38,4 +38,5 @@ pub use plan::run_plan;
 pub use routes::{run_routes, run_routes_anyway};
 pub use status::{RunError, Status, exit_code, fault_line};
 pub use table::{run_table, run_table_anyway};
+pub use watch::{Watching, run_watch};
 pub use whatif::run_whatif;

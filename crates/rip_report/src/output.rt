@@ -179,12 +179,13 @@ impl<K: Sink> Out<K> {
         }
     }
 
-    /// Sends what is left, and ends a run with this answer, or with Write where the sink has failed.
+    /// Sends what is left, and ends a run with this answer, or with Write where the sink has failed:
+    /// Write is the answer of a run that stopped there.
     pub(crate) fn finish_with(
         self,
         answer: Result<Status, RunError>,
     ) -> (K, Result<Status, RunError>)
-        requires { answer ≢ Err RunError.Write }
+        requires { answer ≡ Err RunError.Write → self.failed ≡ true }
         ensures { EndsWith self.start (sink_state K.taken K.broken result.0) self.text answer
             result.1 }
     {

@@ -1,70 +1,34 @@
 //! The command `watch`: the verdict on a network in each second of a log with times.
 
-ghost use Rattle.std.specs.Prelude.{◌≡◌, ◌≢◌, ◌+◌, ◌-◌, ◌≤◌, false, true, IfOk, IfSome, OnErr, Ok};
-ghost use Rattle.rip_log.specs.TimedCall.{timed_said_of};
-ghost use Rattle.rip_log.specs.TimedText.{IsEarly};
-ghost use Rattle.rip_log.specs.declared.limits.TheConstants.{MOST_SECONDS};
+mod film;
+
+ghost use Rattle.std.specs.Prelude.{◌≡◌, ◌≢◌, ◌↔◌, ◌≤◌, ℕ, Bool, List, [], IfOk, None, Ok, Err, Some, false, true};
+ghost use Rattle.rip_log.specs.TimedCall.{timed_lines, timed_said_of, timed_source, timed_text};
+ghost use Rattle.rip_log.specs.TimedText.{IsEarly, LineSaid, TextSays};
+ghost use Rattle.rip_log.specs.Wholes.{OfWhole, Went};
+ghost use Rattle.rip_plan.specs.Network.{Network};
+ghost use Rattle.rip_plan.specs.PlanOf.{IsPlanOfText};
 ghost use Rattle.rip_table.specs.State.{Fits};
-ghost use Rattle.rip_table.specs.Window.{shown};
-ghost use Rattle.rip_table.specs.Scenes.{LastsFor, after_line, closed_view};
-ghost use Rattle.rip_table.specs.SceneViews.{view_of};
-ghost use Rattle.rip_table.specs.Seconds.{after_quiet, later_second};
-ghost use Rattle.rip_report.specs.AuditText.{IsJudged};
-ghost use Rattle.rip_report.specs.Finished.{AddsWritten};
+ghost use Rattle.rip_table.specs.Window.{new_window, shown};
+ghost use Rattle.rip_report.specs.Films.{EndsFilm, IsNew, IsNotTimed, IsStage, IsUnreadTo, ShowsText, TakesLine, line_second, stage_of};
+ghost use Rattle.rip_report.specs.Given.{IsGiven};
 ghost use Rattle.rip_report.specs.Outs.{AddsOne, HasGoneOut};
-ghost use Rattle.rip_report.specs.WatchText.{IsShot, LineBegun, QuietBegun, QuietFilm, SceneText, line_second, seconds_before};
+ghost use Rattle.rip_report.specs.Runs.{Draws, RunsOnTimes};
+ghost use Rattle.rip_report.specs.Sent.{PrintsAlong};
+ghost use Rattle.rip_report.specs.WatchText.{EndsRight, WatchedLog, WatchedLogFront};
 
-use crate::audit::add_audit;
 use crate::output::Out;
-use crate::refusal::push_refusal_line;
-use crate::status::Status;
-use rip_log::{Failed, IntoWrite, Sink, TimedLine, write_second};
+use crate::refusal::{push_refusal_line, refuse_plan};
+use crate::status::{RunError, Status};
+use film::{Film, second_of};
+// use rip_log::laws::timed_texts;
+use rip_log::{Failed, Sink, Source, TimedLine, TimedReader};
 use rip_plan::Plan;
+use rip_plan::laws::{one_plan, well_formed_texts};
 use rip_table::laws::lasting_scenes;
-use rip_table::{Scene, WindowLength, WindowTable};
+use rip_table::{GridWindow, LineCause, Scene, WindowLength, WindowTable};
 use std::alloc::{AllocError, Global};
-
-/// Adds the verdict of a scene: the line of the first refusal, or the verdict on what is shown.
-fn add_scene<T: WindowTable, K: Sink>(
-    alloc: Global,
-    out: &mut Out<K>,
-    plan: &Plan,
-    scene: &Scene<T>,
-) -> Result<Status, AllocError>
-    requires { Fits plan.now (shown (view_of T.window scene.now).window) }
-    ensures adds { AddsWritten out.old out.new result
-        (SceneText plan.now (view_of T.window scene.now)) }
-    ensures judged { IfOk result (λ status. status ≢ Status.Refused →
-        IsJudged plan.now (shown (view_of T.window scene.now).window) status) }
-{
-    match scene.refusal() {
-        Some(refusal) => {
-            push_refusal_line(out, refusal.line, refusal.cause);
-            Ok(Status::Refused)
-        }
-        None => add_audit(alloc, out, plan, scene.table(), false),
-    }
-}
-
-/// The text of the verdict of a scene, and its status.
-fn scene_text<T: WindowTable>(
-    alloc: Global,
-    plan: &Plan,
-    scene: &Scene<T>,
-) -> Result<(Vec<u8>, Status), AllocError>
-    requires { Fits plan.now (shown (view_of T.window scene.now).window) }
-    ensures text { IfOk result (λ made. SceneText plan.now (view_of T.window scene.now)
-        (record { text = made.0.items; status = made.1 })) }
-    ensures judged { IfOk result (λ made. made.1 ≢ Status.Refused →
-        IsJudged plan.now (shown (view_of T.window scene.now).window) made.1) }
-{
-    let mut text = Out::new(IntoWrite::new(Vec::new(alloc)));
-    let status = add_scene(alloc, &mut text, plan, scene)?;
-    match text.finish() {
-        (sink, Ok(())) => Ok((sink.into_writer(), status)),
-        (_, Err(Failed)) => Err(AllocError),
-    }
-}
+use std::hash::BuildHasher;
 
 /// How to watch.
 #[derive(Clone, Copy, Debug)]
@@ -75,158 +39,101 @@ pub struct Watching {
     pub until_settled: bool,
 }
 
-/// Whether a film ends with this status.
-fn is_end(until_settled: bool, status: Status) -> bool
-    ensures ends { result ≡ true → (until_settled ≡ true) × (status ≡ Status.Settled) }
-    ensures goes_on { result ≡ false → until_settled ≡ true → status ≢ Status.Settled }
-{
-    until_settled && status == Status::Settled
-}
-
-/// The second of a line's time, if it has one.
-fn second_of(line: &TimedLine<'_>) -> Option<u64>
-    requires { IsEarly (timed_said_of line.now) }
-    ensures second { result ≡ line_second line.now }
-    ensures most { IfSome result (λ second. second ≤ MOST_SECONDS) }
+/// Adds the refusal of a first line that says something without a time, and answers the status with
+/// which it ends the film, if it does.
+fn refuse_untimed<K: Sink>(out: &mut Out<K>, line: &TimedLine<'_>) -> Option<Status>
+    requires { line_second line.now ≡ None }
+    ensures { IsNotTimed line.now out.old out.new result }
 {
     match line {
-        TimedLine::Skipped => None,
-        TimedLine::Record(record) => Some(record.micros / 1_000_000),
-        TimedLine::Bad(fault) => match fault.micros {
-            None => None,
-            Some(micros) => Some(micros / 1_000_000),
-        },
+        TimedLine::Bad(fault) => {
+            push_refusal_line(out, fault.line, LineCause::Log(fault.code));
+            Some(Status::Refused)
+        }
+        _ => None,
     }
 }
 
-/// The second of a line behind others: its own, or the one before, whichever is later.
-fn second_with(second: u64, line: &TimedLine<'_>) -> u64
-    requires second { second ≤ MOST_SECONDS }
-    requires early { IsEarly (timed_said_of line.now) }
-    ensures later { result ≡ later_second second (line_second line.now) }
-    ensures low { second ≤ result }
-    ensures most { result ≤ MOST_SECONDS }
-{
-    match second_of(line) {
-        Some(own) if second < own => own,
-        _ => second,
-    }
-}
-
-/// How far a film has come: the scene of the present second, and the verdict of the second before.
+/// A film, and whether it has begun: it begins in the second of the first line that says something.
 #[derive(Drop)]
-struct Film<T> {
-    scene: Scene<T>,
-    second: u64,
-    last: Vec<u8>,
+struct Watch<T> {
+    film: Film<T>,
+    begun: bool,
 }
 
-impl<T: WindowTable> Film<T> {
-    /// Ends the present second: prints its time and its verdict, at once, unless the verdict is that
-    /// of the second before.
-    fn show<K: Sink>(
-        &mut self,
-        alloc: Global,
-        plan: &Plan,
-        out: &mut Out<K>,
-    ) -> Result<Status, AllocError>
-        requires fits { Fits plan.now (shown (view_of T.window self.old.scene).window) }
-        requires second { self.old.second ≤ MOST_SECONDS }
-        ensures shot { IfOk result (λ status. AddsOne out.old out.new
-            (IsShot plan.now self.old.second (view_of T.window self.new.scene) self.old.last.items
-            (record { text = self.new.last.items; status = status }))) }
-        ensures nothing { OnErr result (out.new ≡ out.old) }
-        ensures sent { HasGoneOut out.old → HasGoneOut out.new }
-        ensures view { view_of T.window self.new.scene
-            ≡ closed_view plan.now (view_of T.window self.old.scene) }
-        ensures second { self.new.second ≡ self.old.second }
-        ensures fits { Fits plan.now (shown (view_of T.window self.new.scene).window) }
+impl<T: WindowTable> Watch<T> {
+    /// The film of a table, of which nothing is shown yet.
+    fn new(alloc: Global, table: T) -> Watch<T>
+        ensures new { (n : Network) → T.window table ≡ new_window n →
+            IsNew n (stage_of T.window result) }
+        ensures second { (stage_of T.window result).second ≡ 0 }
     {
-        self.scene.close(plan);
-        let (text, status) = scene_text(alloc, plan, &self.scene)?;
-        if text.as_slice() != self.last.as_slice() {
-            out.push_bytes(&write_second(self.second));
-            out.push(" ");
-            out.push_bytes(&text);
-            out.send();
-            self.last = text;
+        Watch {
+            film: Film {
+                scene: Scene::new(table),
+                second: 0,
+                last: Vec::new(alloc),
+            },
+            begun: false,
         }
-        Ok(status)
     }
 
-    /// Lets so many seconds pass in which no line comes. Where it is to end at a settled second, it
-    /// stops there, and answers that it did.
-    fn pass_quiet<K: Sink>(
-        &mut self,
-        alloc: Global,
-        plan: &Plan,
-        until_settled: bool,
-        count: u64,
-        out: &mut Out<K>,
-    ) -> Result<bool, AllocError>
-        requires fits { Fits plan.now (shown (view_of T.window self.old.scene).window) }
-        requires second { self.old.second + count ≤ MOST_SECONDS + 1 }
-        ensures film { IfOk result (λ settled. AddsOne out.old out.new (QuietFilm plan.now
-            until_settled self.old.last.items self.old.second (view_of T.window self.old.scene)
-            count settled self.new.last.items)) }
-        ensures begun { OnErr result (AddsOne out.old out.new (QuietBegun plan.now until_settled
-            self.old.last.items self.old.second (view_of T.window self.old.scene) count)) }
-        ensures sent { HasGoneOut out.old → HasGoneOut out.new }
-        ensures view { result ≡ Ok false → view_of T.window self.new.scene
-            ≡ after_quiet plan.now count (view_of T.window self.old.scene) }
-        ensures second { result ≡ Ok false → self.new.second ≡ self.old.second + count }
-        ensures fits { Fits plan.now (shown (view_of T.window self.new.scene).window) }
-    {
-        for _ in 0..count {
-            let status = self.show(alloc, plan, out)?;
-            if is_end(until_settled, status) {
-                return Ok(true);
-            }
-            self.scene.pass();
-            self.second += 1;
-        }
-        Ok(false)
-    }
-
-    /// Goes on to a second, where no line came since the present one. Of the seconds before it only
-    /// those of one window are judged, and one more: by then nothing is left, and nothing changes.
-    fn advance<K: Sink>(
+    /// Takes in a line of a film that has begun.
+    fn take_on<K: Sink>(
         &mut self,
         alloc: Global,
         plan: &Plan,
         watching: Watching,
-        to: u64,
+        line: &TimedLine<'_>,
         out: &mut Out<K>,
-    ) -> Result<bool, AllocError>
-        requires fits { Fits plan.now (shown (view_of T.window self.old.scene).window) }
-        requires second { self.old.second ≤ to }
-        requires most { to ≤ MOST_SECONDS }
-        requires lasts { LastsFor watching.length (view_of T.window self.old.scene) }
-        ensures film { IfOk result (λ settled. AddsOne out.old out.new (QuietFilm plan.now
-            watching.until_settled self.old.last.items self.old.second
-            (view_of T.window self.old.scene) (to - self.old.second) settled
-            self.new.last.items)) }
-        ensures begun { OnErr result (AddsOne out.old out.new (QuietBegun plan.now
-            watching.until_settled self.old.last.items self.old.second
-            (view_of T.window self.old.scene) (to - self.old.second))) }
+    ) -> Result<Option<Status>, AllocError>
+        requires begun { self.old.begun ≡ true }
+        requires stage { IsStage plan.now watching.length (stage_of T.window self.old) }
+        requires early { IsEarly (timed_said_of line.now) }
+        ensures takes { TakesLine plan.now watching.length watching.until_settled line.now
+            (stage_of T.window self.old) (stage_of T.window self.new) out.old out.new result }
+        ensures stage { result ≡ Ok None →
+            IsStage plan.now watching.length (stage_of T.window self.new) }
         ensures sent { HasGoneOut out.old → HasGoneOut out.new }
-        ensures view { result ≡ Ok false → view_of T.window self.new.scene
-            ≡ after_quiet plan.now (to - self.old.second) (view_of T.window self.old.scene) }
-        ensures second { result ≡ Ok false → self.new.second ≡ to }
-        ensures fits { Fits plan.now (shown (view_of T.window self.new.scene).window) }
     {
-        lasting_scenes();
-        let quiet = to - self.second;
-        let judged = quiet.min(u64::from(watching.length.get()) + 1);
-        let settled = self.pass_quiet(alloc, plan, watching.until_settled, judged, out)?;
-        if !settled {
-            self.second = to;
+        if self.film.take(alloc, plan, watching, line, out)? {
+            Ok(Some(Status::Settled))
+        } else {
+            Ok(None)
         }
-        Ok(settled)
     }
 
-    /// Takes in a line, behind the seconds before its own. Where a settled second among these ends
-    /// the film, the line is left out, and the answer is that it did.
+    /// Takes in a line of a film that has not begun: its first that says something begins it.
+    fn take_first<K: Sink>(
+        &mut self,
+        alloc: Global,
+        plan: &Plan,
+        watching: Watching,
+        line: &TimedLine<'_>,
+        out: &mut Out<K>,
+    ) -> Result<Option<Status>, AllocError>
+        requires begun { self.old.begun ≡ false }
+        requires stage { IsStage plan.now watching.length (stage_of T.window self.old) }
+        requires early { IsEarly (timed_said_of line.now) }
+        ensures takes { TakesLine plan.now watching.length watching.until_settled line.now
+            (stage_of T.window self.old) (stage_of T.window self.new) out.old out.new result }
+        ensures stage { result ≡ Ok None →
+            IsStage plan.now watching.length (stage_of T.window self.new) }
+        ensures sent { result ≡ Ok None → HasGoneOut out.old → HasGoneOut out.new }
+    {
+        match second_of(line) {
+            None => Ok(refuse_untimed(out, line)),
+            Some(second) => {
+                self.film.second = second;
+                self.begun = true;
+                self.take_on(alloc, plan, watching, line, out)
+            }
+        }
+    }
+
+    /// Takes in the next line, and answers the status with which it ends the film, if it does: that
+    /// of the first line that says something, if it has no time, or of a settled second before this
+    /// line. Then the line is left out.
     fn take<K: Sink>(
         &mut self,
         alloc: Global,
@@ -234,39 +141,159 @@ impl<T: WindowTable> Film<T> {
         watching: Watching,
         line: &TimedLine<'_>,
         out: &mut Out<K>,
-    ) -> Result<bool, AllocError>
-        requires fits { Fits plan.now (shown (view_of T.window self.old.scene).window) }
-        requires second { self.old.second ≤ MOST_SECONDS }
+    ) -> Result<Option<Status>, AllocError>
+        requires stage { IsStage plan.now watching.length (stage_of T.window self.old) }
         requires early { IsEarly (timed_said_of line.now) }
-        requires lasts { LastsFor watching.length (view_of T.window self.old.scene) }
-        ensures film { IfOk result (λ settled. AddsOne out.old out.new (QuietFilm plan.now
-            watching.until_settled self.old.last.items self.old.second
-            (view_of T.window self.old.scene) (seconds_before self.old.second line.now) settled
-            self.new.last.items)) }
-        ensures begun { OnErr result (AddsOne out.old out.new (LineBegun plan.now
-            watching.until_settled self.old.last.items self.old.second
-            (view_of T.window self.old.scene) (seconds_before self.old.second line.now))) }
-        ensures sent { HasGoneOut out.old → HasGoneOut out.new }
-        ensures view { result ≡ Ok false → view_of T.window self.new.scene
-            ≡ after_line plan.now watching.length line.now (after_quiet plan.now
-            (seconds_before self.old.second line.now) (view_of T.window self.old.scene)) }
-        ensures second { result ≡ Ok false → self.new.second
-            ≡ self.old.second + seconds_before self.old.second line.now }
-        ensures most { result ≡ Ok false → self.new.second ≤ MOST_SECONDS }
-        ensures lasts { result ≡ Ok false →
-            LastsFor watching.length (view_of T.window self.new.scene) }
-        ensures fits { Fits plan.now (shown (view_of T.window self.new.scene).window) }
+        ensures takes { TakesLine plan.now watching.length watching.until_settled line.now
+            (stage_of T.window self.old) (stage_of T.window self.new) out.old out.new result }
+        ensures stage { result ≡ Ok None →
+            IsStage plan.now watching.length (stage_of T.window self.new) }
+        ensures sent { result ≡ Ok None → HasGoneOut out.old → HasGoneOut out.new }
     {
-        lasting_scenes();
-        let length = watching.length;
-        length.lawful();
-        let to = second_with(self.second, line);
-        if self.advance(alloc, plan, watching, to, out)? {
-            return Ok(true);
+        if self.begun {
+            self.take_on(alloc, plan, watching, line, out)
+        } else {
+            self.take_first(alloc, plan, watching, line, out)
         }
-        match self.scene.hear(plan, length, line) {
-            Ok(()) => Ok(false),
-            Err(_) => Err(AllocError),
+    }
+
+    /// Ends a film behind the last line: its present second is the last. The status is that of its
+    /// verdict, or Unclear where no line said anything.
+    fn end<K: Sink>(
+        &mut self,
+        alloc: Global,
+        plan: &Plan,
+        out: &mut Out<K>,
+    ) -> Result<Status, AllocError>
+        requires fits { Fits plan.now (shown (stage_of T.window self.old).view.window) }
+        requires second { (stage_of T.window self.old).second ≤ MOST_SECONDS }
+        ensures { (window : ℕ) (until : Bool) → EndsFilm plan.now window until
+            (stage_of T.window self.old) out.old out.new result }
+    {
+        if self.begun {
+            self.film.show(alloc, plan, out)
+        } else {
+            Ok(Status::Unclear)
+        }
+    }
+}
+
+/// Prints a film of the lines to come. Where a write has failed it stops, and answers Write.
+fn watch_lines<R: Source, T: WindowTable, K: Sink>(
+    alloc: Global,
+    plan: &Plan,
+    watching: Watching,
+    reader: &mut TimedReader<R>,
+    watch: &mut Watch<T>,
+    out: &mut Out<K>,
+) -> Result<Status, RunError>
+    requires front { timed_lines reader.old ≡ 0 }
+    requires stage { IsStage plan.now watching.length (stage_of T.window watch.old) }
+    requires nothing { IsNew plan.now (stage_of T.window watch.old) }
+    ensures shows { OfWhole R.given R.at_end (timed_source reader.new) (λ coming.
+        AddsOne out.old out.new (ShowsText plan.now watching.length watching.until_settled
+        (timed_text coming reader.old) result)) }
+    ensures went { Went R.given R.coming R.at_end (timed_source reader.old)
+        (timed_source reader.new) }
+    ensures read { result ≡ Err RunError.Read → OfWhole R.given R.at_end
+        (timed_source reader.new) (λ coming. IsUnreadTo (R.broken (timed_source reader.new))
+        (timed_text coming reader.old)) }
+    ensures marks { result ≢ Err RunError.Read →
+        R.broken (timed_source reader.new) ≡ R.broken (timed_source reader.old) }
+    ensures write { result ≡ Err RunError.Write → out.new.failed ≡ true }
+    ensures ended { IfOk result (λ status. (watching.until_settled ≡ true → status ≢ Status.Settled)
+        → status ≢ Status.Refused → R.at_end (timed_source reader.new) ≡ true) }
+{
+    'lines: loop {
+        match reader.next() {
+            Err(Failed) => return Err(RunError::Read),
+            Ok(None) => return match watch.end(alloc, plan, out) {
+                Ok(status) => Ok(status),
+                Err(_) => Err(RunError::Memory),
+            },
+            Ok(Some(line)) => match watch.take(alloc, plan, watching, &line, out) {
+                Ok(None) => {}
+                Ok(Some(status)) => return Ok(status),
+                Err(_) => return Err(RunError::Memory),
+            },
+        }
+        if out.has_failed() {
+            return Err(RunError::Write);
+        }
+    }
+}
+
+/// Watches a log by its plan. The source and the sink come back.
+fn watch_log<R: Source, K: Sink, S: BuildHasher + Drop>(
+    alloc: Global,
+    plan: &Plan,
+    log: R,
+    out: K,
+    watching: Watching,
+    hasher: S,
+) -> (R, K, Result<Status, RunError>)
+    ensures prints { (text : List ℕ) → IsGiven R.given R.at_end log result.0 text →
+        PrintsAlong K.taken K.broken out result.1 result.2
+        (WatchedLog plan.now watching.length watching.until_settled text)
+        (WatchedLogFront plan.now watching.length watching.until_settled text) }
+    ensures draws { Draws R.given R.coming R.broken R.at_end log result.0 result.2 }
+    ensures read { (text : List ℕ) → IsGiven R.given R.at_end log result.0 text →
+        result.2 ≡ Err RunError.Read → IsUnreadTo (R.broken result.0) (Some text) }
+    ensures ended { IfOk result.2 (λ status. (watching.until_settled ≡ true →
+        status ≢ Status.Settled) → status ≢ Status.Refused → R.at_end result.0 ≡ true) }
+    ensures settled { (text : List ℕ) → IsGiven R.given R.at_end log result.0 text →
+        (said : List LineSaid) → TextSays text said → IfOk result.2 (λ status.
+        (status ≡ Status.Settled)
+        ↔ EndsRight plan.now watching.length watching.until_settled said) }
+{
+    lasting_scenes();
+    // timed_texts();
+    let table = match GridWindow::with_hasher(alloc, plan, hasher) {
+        Ok(table) => table,
+        Err(_) => return (log, out, Err(RunError::Memory)),
+    };
+    let mut reader = match TimedReader::new(alloc, log) {
+        Ok(reader) => reader,
+        Err((_, log)) => return (log, out, Err(RunError::Memory)),
+    };
+    let mut watch = Watch::new(alloc, table);
+    let mut text = Out::new(out);
+    let ended = watch_lines(alloc, plan, watching, &mut reader, &mut watch, &mut text);
+    let (out, answer) = text.finish_with(ended);
+    (reader.into_source(), out, answer)
+}
+
+/// Prints the verdict on a network in each second of a log with times in which it changed, as soon
+/// as a line of a later second has come, or why the plan is refused. What an interface says is shown
+/// for `watching.length`. Lines that are refused, good ones of others between them, are an episode,
+/// in which the verdict is the refusal of its first. The status is that of the last verdict; with
+/// `until_settled` the first settled second ends the run. The source and the sink come back. The log
+/// chooses the prefixes, so the hasher should be seeded at random.
+pub fn run_watch<R: Source, K: Sink, S: BuildHasher + Drop>(
+    alloc: Global,
+    plan: &[u8],
+    log: R,
+    out: K,
+    watching: Watching,
+    hasher: S,
+) -> (R, K, Result<Status, RunError>)
+    // What it prints and leaves.
+    ensures runs { RunsOnTimes R.Source K.Sink watching.length watching.until_settled plan.now log
+        out result }
+    // Settled is answered exactly where the last second is right; or, with `until_settled`, where any
+    // is. Each other second is printed as settled exactly where it is right, as `WatchText` says.
+    ensures settled { (text : List ℕ) → IsGiven R.given R.at_end log result.0 text →
+        (n : Network) (said : List LineSaid) → IsPlanOfText plan.now n → TextSays text said →
+        IfOk result.2 (λ status. status ≢ Status.Refused → (status ≡ Status.Settled)
+        ↔ EndsRight n watching.length watching.until_settled said) }
+{
+    one_plan();
+    well_formed_texts();
+    match Plan::read(alloc, plan) {
+        Ok(plan) => watch_log(alloc, &plan, log, out, watching, hasher),
+        Err(error) => {
+            let (out, answer) = refuse_plan(error, out);
+            (log, out, answer)
         }
     }
 }

@@ -6,13 +6,14 @@ ghost use Rattle.rip_report.specs.declared.status.RunError.{RunError};
 use crate::capture_files::log_files;
 use crate::commands::{
     PlanCommand, ReadCommand, manner, plan_command, read_command, read_plan, run_anyway,
-    run_on_log, run_on_plan,
+    run_on_log, run_on_plan, watching,
 };
 use crate::words::{capture_word, first_bad_word};
 use clap::error::ErrorKind;
-use clap::{Arg, ArgAction, ArgMatches, Command, Error};
+use clap::{Arg, ArgAction, ArgMatches, Command, Error, value_parser};
 use rip_log::{FromRead, IntoWrite};
-use rip_report::{Manner, RunError, Status, exit_code, fault_line, run_decode};
+use rip_report::{Manner, RunError, Status, exit_code, fault_line, run_decode, run_watch};
+use rip_table::MOST_WINDOW;
 use std::alloc::{AllocError, Global};
 use std::collections::hash_map::RandomState;
 use std::io::{IsTerminal, Read};
@@ -107,6 +108,23 @@ fn log_command<'a>(alloc: Global) -> Result<Command<'a>, AllocError> {
         .arg(flag(alloc, "times", times))
 }
 
+/// The command that reads a log with times.
+fn watch_command<'a>(alloc: Global) -> Result<Command<'a>, AllocError> {
+    let about = "Tells the verdict of audit in each second of a log with times in which it changed";
+    let window = "For how many seconds what an interface says is shown, 1 to 86400, 90 if left out";
+    let until = "End at the first settled second";
+    on_log(alloc, "watch", about)?
+        .arg(
+            Arg::new(alloc, "window")
+                .long("window")
+                .value_name("SECONDS")
+                .action(ArgAction::Set)
+                .value_parser(value_parser!(u32).range(1..=i64::from(MOST_WINDOW)))
+                .help(window),
+        )?
+        .arg(flag(alloc, "until-settled", until))
+}
+
 /// The command that reads a datagram.
 fn decode_command<'a>(alloc: Global) -> Result<Command<'a>, AllocError> {
     let hex = "The datagram's bytes in hexadecimal digits of either case";
@@ -143,6 +161,7 @@ fn commands<'a>(alloc: Global) -> Result<Command<'a>, AllocError> {
     );
     let heard = "Tells who is in a log, and all that is refused, a stranger's or bad";
     let ripaudit = add(ripaudit, on_log(alloc, "heard", heard));
+    let ripaudit = add(ripaudit, watch_command(alloc));
     let routes = "Prints the routes that a log shows";
     let ripaudit = add(ripaudit, on_log_with_anyway(alloc, "routes", routes));
     let table = "Prints what each interface of a plan shows in a log";
@@ -228,6 +247,9 @@ fn report_from<R: AllocGlobal + RandomSource + Print, L: Read + Drop>(
         ReadCommand::Judged(command) => run_on_log(rt.alloc(), command, plan, log, out, prefixes),
         ReadCommand::Anyway(command) => {
             run_anyway(rt.alloc(), command, plan, log, out, prefixes, strangers)
+        }
+        ReadCommand::Watch(watching) => {
+            run_watch(rt.alloc(), plan, log, out, watching, prefixes)
         }
     };
     outcome
@@ -321,6 +343,11 @@ where
         return Some(run_log_command(rt, kept, words.get_strs("FILE")?));
     }
     let path = words.get_str("PLAN")?;
+    if word == "watch" {
+        let window = words.get_one::<u32>("window");
+        let command = ReadCommand::Watch(watching(window, words.get_flag("until-settled"))?);
+        return Some(report_file(rt, command, path, words.get_str("LOG")));
+    }
     let all = words.get_flag("all");
     if let Some(command) = plan_command(word, all) {
         return Some(plan_file(rt, command, path));

@@ -18,11 +18,15 @@ use rip_log::{Failed, Sink, Source};
 use rip_plan::MOST_PLAN_BYTES;
 use rip_report::laws::accepted_tables;
 use rip_report::{
-    Authentication, Manner, RunError, Status, run_audit, run_expect, run_explain, run_heard,
+    Authentication, Manner, RunError, Status, Watching, run_audit, run_expect, run_explain, run_heard,
     run_plan, run_routes, run_routes_anyway, run_table, run_table_anyway, run_whatif,
 };
+use rip_table::WindowLength;
 use std::alloc::Global;
 use std::hash::BuildHasher;
+
+/// The seconds of a window, if none are asked for.
+const DEFAULT_WINDOW: u32 = 90;
 
 /// The bytes that are pulled at once from the file of a plan.
 const PIECE_LEN: usize = 4_096;
@@ -70,6 +74,8 @@ pub(crate) enum ReadCommand {
     Judged(LogCommand),
     /// Those that read it to its end, whatever its lines say.
     Anyway(AnywayCommand),
+    /// The one that reads a log with times.
+    Watch(Watching),
 }
 
 /// The command of that name that reads a plan alone, with all that is lost where it is asked for.
@@ -138,6 +144,20 @@ pub(crate) fn manner(without_authentication: bool, times: bool) -> Manner
         authentication,
         times,
     }
+}
+
+/// How to watch, by the seconds of the window, 90 if left out, and by its flag.
+pub(crate) fn watching(window: Option<u32>, until_settled: bool) -> Option<Watching>
+    ensures default { window ≡ None → IsSomeAnd result (λ w. w.length ≡ 90) }
+    ensures window { IfSome window (λ seconds. IsSomeAnd result (λ w. w.length ≡ seconds)
+        ⊎ (seconds < 1) ⊎ (MOST_WINDOW < seconds)) }
+    ensures until { IfSome result (λ w. w.until_settled ≡ until_settled) }
+{
+    let length = WindowLength::new(window.unwrap_or(DEFAULT_WINDOW))?;
+    Some(Watching {
+        length,
+        until_settled,
+    })
 }
 
 /// All bytes of a plan's file, or the first of them where there are more than a plan may have.

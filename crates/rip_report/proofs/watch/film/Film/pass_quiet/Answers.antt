@@ -5,7 +5,7 @@ use Rattle.rip_table.specs.Seconds.{after_quiet, quiet}
 use Rattle.rip_report.specs.WatchText.{FilmOf, FilmToSettled, IsShot}
 use Rattle.rip_report.proofs.OutLemmas.{adds_nothing}
 use Rattle.rip_report.proofs.WatchLemmas.{added_then, after_more, film_more, film_none, film_settled}
-use Rattle.rip_report.proofs.watch.Film.pass_quiet.Goals as goal
+use Rattle.rip_report.proofs.watch.film.Film.pass_quiet.Goals as goal
 
 pub loop-init : goal.loop-init
 loop-init g c = record {

@@ -2,9 +2,9 @@ use Rattle.std.proofs.Common.{◌≡◌, ◌∙◌, ◌-◌, ℕ, Bool, Ok, ap, 
 use Rattle.rip_table.specs.SceneViews.{view_of}
 use Rattle.rip_table.specs.Scenes.{LastsFor, after_line}
 use Rattle.rip_table.specs.Seconds.{after_quiet}
-use Rattle.rip_report.specs.WatchText.{seconds_before}
+use Rattle.rip_report.specs.Films.{seconds_before}
 use Rattle.rip_report.proofs.WatchLemmas.{line_lasts}
-use Rattle.rip_report.proofs.watch.Film.take.Goals as goal
+use Rattle.rip_report.proofs.watch.film.Film.take.Goals as goal
 
 pub returns-in-Ok-clause-lasts : goal.returns-in-Ok-clause-lasts
 returns-in-Ok-clause-lasts g c same =

@@ -2,7 +2,7 @@ use Rattle.std.proofs.Common.{◌≡◌, ◌+◌, ◌-◌, ◌∙◌, min, ℕ, 
 use Rattle.rip_table.specs.SceneViews.{view_of}
 use Rattle.rip_report.proofs.OutLemmas.{added_also}
 use Rattle.rip_report.proofs.WatchLemmas.{judged_after, judged_film, quiet_film, which_judged}
-use Rattle.rip_report.proofs.watch.Film.advance.Goals as goal
+use Rattle.rip_report.proofs.watch.film.Film.advance.Goals as goal
 
 pub returns-then-not-settled-clause-film : goal.returns-then-not-settled-clause-film
 returns-then-not-settled-clause-film g c =

@@ -5,7 +5,7 @@ use Rattle.rip_table.specs.Window.{shown}
 use Rattle.rip_report.specs.Outs.{AddsOne, HasGoneOut}
 use Rattle.rip_table.specs.Seconds.{after_quiet, quiet}
 use Rattle.rip_report.specs.WatchText.{FilmOf}
-use Rattle.rip_report.proofs.watch.Film.pass_quiet.Given as goal
+use Rattle.rip_report.proofs.watch.film.Film.pass_quiet.Given as goal
 
 abbrev pub invariant-loop : goal.invariant-loop
 invariant-loop g l = record {
