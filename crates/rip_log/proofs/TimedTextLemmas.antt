@@ -1,4 +1,4 @@
--- Each line of a log with times says something, and so do all lines.
+-- Any lines of a log with times say one thing; those of records say their captures.
 use Rattle.std.proofs.Common.{◌≡◌, ◌⊎◌, ◌+◌, ◌-◌, ◌*◌, ◌<◌, ◌≤◌, ◌∙◌, ℕ, Bool, true, false, List, [], ◌∷◌, length, Option, Some, None, Result, Ok, Err, get_or, inl, inr, ap, arith, refl, subst, sym}
 use Rattle.std.specs.Int.{IsInRange}
 use Rattle.std.specs.Io.BufRead.{strip_last}
@@ -8,9 +8,10 @@ use Rattle.std.proofs.lemmas.Slice.Eq.{bytes_eq-Decides}
 use Rattle.rip_log.specs.Calendar.{days_in_month}
 use Rattle.rip_log.specs.Fields.{fields_of, is_comment}
 use Rattle.rip_log.specs.Lines.{Capture, three_fields}
-use Rattle.rip_log.specs.LogText.{AreThreeJudged, IsSkipped}
+use Rattle.rip_log.specs.LogText.{AreRecords, AreThreeJudged, IsRecord, IsSkipped}
+use Rattle.rip_log.specs.Logs.{Numbered}
 use Rattle.rip_log.specs.TimedParts.{AreTimed}
-use Rattle.rip_log.specs.TimedText.{AreTimedSaid, HasTimed, IsTimedLine, LineSaid, TimedSaid, captured, bad, untimed}
+use Rattle.rip_log.specs.TimedText.{AreCaptured, AreTimedOf, AreTimedSaid, HasTimed, IsCaptured, IsTimedLine, IsTimedOf, LineSaid, TimedSaid, captured, bad, untimed}
 use Rattle.rip_log.specs.Times.{IsDateTime, IsTimeOfDay, IsTimeText, micros_of, time_text}
 use Rattle.rip_log.specs.declared.error.LogCode.{LogCode}
 use Rattle.rip_log.specs.declared.error.LogCode.TheVariants.{LongLine, Fields}
@@ -193,3 +194,46 @@ module _ (one : OneSaying) where
   lines-say-one n (line ∷ lines) (a ∷ said) (b ∷ more) (inr first) (inl second) = skipped-silent line a.said second.0 first.1
   lines-say-one n (line ∷ lines) (a ∷ said) (b ∷ more) (inr first) (inr second) =
       one_more n line lines a b said more first.0 second.0 first.1 second.1 (lines-say-one (n + 1) lines said more first.2 second.2)
+
+  -- ---- without times
+
+  -- a line with a time says what it says without it
+  timed_record : (line bare : List ℕ) (capture : Capture) → IsTimedOf line bare → IsRecord bare capture → (micros : ℕ) × IsTimedLine line (Some (captured micros capture))
+  timed_record line bare capture of record_is =
+      let front = record_is.front in
+      let timed = of.timed capture.link front.sender record_is.digits front.three in (
+        timed.0,
+        record {
+          digits = record_is.digits;
+          front = record { sender = front.sender; three = timed.1; name = front.name; is_sender = front.is_sender };
+          bytes = record_is.bytes;
+          few = record_is.few;
+          no_fault = record_is.no_fault;
+        },
+      )
+
+  said_record : (line bare : List ℕ) (capture : Capture) (said : TimedSaid) → IsTimedOf line bare → IsRecord bare capture → IsTimedLine line (Some said) → IsCaptured said capture
+  said_record line bare capture said of is says =
+      let timed = timed_record line bare capture of is in
+      let same = one line (Some said) (Some (captured timed.0 capture)) says timed.1 in
+      (timed.0, cc same)
+
+  not-skipped : {A : Type 0} (line bare : List ℕ) (capture : Capture) → IsTimedOf line bare → IsRecord bare capture → IsSkipped line → A
+  not-skipped line bare capture of is skipped = let timed = timed_record line bare capture of is in skipped-silent line (captured timed.0 capture) skipped timed.1
+
+  pub records-said : (m n : ℕ) (lines bares : List (List ℕ)) (said : List LineSaid) (records : List Numbered) → AreTimedOf lines bares → AreRecords m bares records → AreTimedSaid n lines said
+      → AreCaptured said records
+  records-said m n [] bares said records of are says =
+      let none : records ≡ [] = subst (λ (b : List (List ℕ)). AreRecords m b records) of are in
+      subst (λ (s : List LineSaid). AreCaptured s records) (sym says) none
+  records-said m n (line ∷ lines) [] said records of are says = absurd of
+  records-said m n (line ∷ lines) (bare ∷ bares) [] [] of are says = refl
+  records-said m n (line ∷ lines) (bare ∷ bares) (s ∷ said) [] of are (inl says) = records-said (m + 1) (n + 1) lines bares (s ∷ said) [] of.1 are.1 says.1
+  records-said m n (line ∷ lines) (bare ∷ bares) (s ∷ said) [] of are (inr says) = skipped-silent line s.said (of.0.skipped are.0) says.1
+  records-said m n (line ∷ lines) (bare ∷ bares) [] (r ∷ records) of (inl are) says = records-said (m + 1) (n + 1) lines bares [] (r ∷ records) of.1 are.1 says.1
+  records-said m n (line ∷ lines) (bare ∷ bares) [] (r ∷ records) of (inr are) says = not-skipped line bare r.capture of.0 are.1 says.0
+  records-said m n (line ∷ lines) (bare ∷ bares) (s ∷ said) (r ∷ records) of (inl are) (inl says) = records-said (m + 1) (n + 1) lines bares (s ∷ said) (r ∷ records) of.1 are.1 says.1
+  records-said m n (line ∷ lines) (bare ∷ bares) (s ∷ said) (r ∷ records) of (inl are) (inr says) = skipped-silent line s.said (of.0.skipped are.0) says.1
+  records-said m n (line ∷ lines) (bare ∷ bares) (s ∷ said) (r ∷ records) of (inr are) (inl says) = not-skipped line bare r.capture of.0 are.1 says.0
+  records-said m n (line ∷ lines) (bare ∷ bares) (s ∷ said) (r ∷ records) of (inr are) (inr says) =
+      (said_record line bare r.capture s.said of.0 are.1 says.1, records-said (m + 1) (n + 1) lines bares said records of.1 are.2 says.2)

@@ -11,9 +11,9 @@ ghost use Rattle.rip_log.specs.Said.{AllSaid, AreAllSaid, HasNoFault, all_said, 
 ghost use Rattle.rip_log.specs.NextCall.{capture_of, line_of};
 ghost use Rattle.rip_log.specs.Lines.{Capture, judge, lines_of};
 ghost use Rattle.rip_log.specs.Logs.{Gives, Log, Numbered, log_at, log_in};
-ghost use Rattle.rip_log.specs.LogText.{AreLines, EndsLine, IsLineJudged, LogFailed, LogFault, LogText};
+ghost use Rattle.rip_log.specs.LogText.{AreLines, AreRecords, EndsLine, IsLineJudged, LogFailed, LogFault, LogText};
 ghost use Rattle.rip_log.specs.Runs.{IsTaken, numbered};
-ghost use Rattle.rip_log.specs.TimedText.{AreTimedSaid, IsTimedLine, LineSaid, TimedSaid};
+ghost use Rattle.rip_log.specs.TimedText.{AreCaptured, AreTimedOf, AreTimedSaid, IsTimedLine, LineSaid, TimedSaid};
 ghost use Rattle.rip_log.specs.Times.{IsSecondText, IsTimeText};
 ghost use Rattle.rip_log.specs.declared.error.LogCode.{LogCode};
 ghost use Rattle.rip_log.specs.declared.error.LogError.{LogError};
@@ -178,6 +178,15 @@ pub fn timed_texts()
     laws::names();
     laws::address_texts();
     laws::first_faults();
+}
+
+/// The lines of a log with times say the captures of the records of the log without them.
+pub fn timed_records()
+    ensures { (m n : ℕ) (lines bares : List (List ℕ)) (said : List LineSaid)
+        (records : List Numbered) → AreTimedOf lines bares → AreRecords m bares records →
+        AreTimedSaid n lines said → AreCaptured said records }
+{
+    timed_lines();
 }
 
 /// Texts come in the order of their times, where bytes are compared from the left.
