@@ -29,3 +29,4 @@ pub mod CalendarLemmas
 pub mod TimeLemmas
 pub mod TimedLemmas
 pub mod TimedRelations
+pub mod TimedTextLemmas

@@ -1,7 +1,8 @@
 -- What the lines of a log with times are, in the words of its format.
 use Rattle.std.specs.Prelude.{◌≡◌, ◌⊎◌, ◌+◌, ℕ, ◌<◌, ◌≤◌, List, [], ◌∷◌, length, Option, Some, None}
 use Rattle.rip_log.specs.Lines.{Capture}
-use Rattle.rip_log.specs.LogText.{AreLines, BadBy, HasFields, IsSkipped, RecordBy, SaysNothing}
+use Rattle.rip_log.specs.LogText.{AreLines, BadBy, HasFields, HasThree, IsSkipped, RecordBy, SaysNothing}
+use Rattle.rip_log.specs.Logs.{Numbered}
 use Rattle.rip_log.specs.Times.{IsTimeText}
 use Rattle.rip_log.specs.declared.error.LogCode.{LogCode}
 use Rattle.rip_log.specs.declared.error.LogCode.TheVariants.{LongLine, Fields}
@@ -65,3 +66,27 @@ pub record TextSays (text : List ℕ) (said : List LineSaid) : Type 0 where
   pub lines : List (List ℕ)
   pub are_lines : AreLines text lines
   pub are_said : AreTimedSaid 0 lines said
+
+-- ---- without times
+
+-- a line is another with a time in front of its three fields; where that is skipped, so is it
+pub record IsTimedOf (line bare : List ℕ) : Type 0 where
+  pub timed : (link sender digits : List ℕ) → HasThree bare link sender digits
+      → (micros : ℕ) × HasTimed line micros link sender digits
+  pub skipped : IsSkipped bare → IsSkipped line
+
+-- so is each of these lines, in order
+abbrev pub AreTimedOf : List (List ℕ) → List (List ℕ) → Type 0
+AreTimedOf [] bares = bares ≡ []
+AreTimedOf (line ∷ lines) [] = ⊥
+AreTimedOf (line ∷ lines) (bare ∷ bares) = IsTimedOf line bare × AreTimedOf lines bares
+
+-- a line says this capture, of whatever time
+abbrev pub IsCaptured : TimedSaid → Capture → Type 0
+IsCaptured said capture = (micros : ℕ) × (said ≡ captured micros capture)
+
+-- lines say the captures of these records, in order; numbers of lines may differ
+abbrev pub AreCaptured : List LineSaid → List Numbered → Type 0
+AreCaptured [] records = records ≡ []
+AreCaptured (s ∷ said) [] = ⊥
+AreCaptured (s ∷ said) (r ∷ records) = IsCaptured s.said r.capture × AreCaptured said records

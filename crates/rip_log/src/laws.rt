@@ -9,11 +9,11 @@ ghost use Rattle.rip_log.specs.Codes.{is_read};
 ghost use Rattle.rip_log.specs.Cuts.{PassesLines};
 ghost use Rattle.rip_log.specs.Said.{AllSaid, AreAllSaid, HasNoFault, all_said, captured_all, log_said, said_at};
 ghost use Rattle.rip_log.specs.NextCall.{capture_of, line_of};
-ghost use Rattle.rip_log.specs.Lines.{Capture, judge};
+ghost use Rattle.rip_log.specs.Lines.{Capture, judge, lines_of};
 ghost use Rattle.rip_log.specs.Logs.{Gives, Log, Numbered, log_at, log_in};
-ghost use Rattle.rip_log.specs.LogText.{AreLines, EndsLine, IsLineJudged, LogFailed, LogFault, LogText};
+ghost use Rattle.rip_log.specs.LogText.{AreLines, AreRecords, EndsLine, IsLineJudged, LogFailed, LogFault, LogText};
 ghost use Rattle.rip_log.specs.Runs.{IsTaken, numbered};
-ghost use Rattle.rip_log.specs.TimedText.{IsTimedLine, TimedSaid};
+ghost use Rattle.rip_log.specs.TimedText.{AreCaptured, AreTimedOf, AreTimedSaid, IsTimedLine, LineSaid, TimedSaid};
 ghost use Rattle.rip_log.specs.Times.{IsSecondText, IsTimeText};
 ghost use Rattle.rip_log.specs.declared.error.LogCode.{LogCode};
 ghost use Rattle.rip_log.specs.declared.error.LogError.{LogError};
@@ -162,6 +162,31 @@ pub fn timed_lines()
     laws::names();
     laws::address_texts();
     laws::first_faults();
+}
+
+/// The lines of a text are those that are computed. Any lines say something, as those of a log with
+/// times, and one thing.
+pub fn timed_texts()
+    ensures lines { (text : List ℕ) (lines : List (List ℕ)) → AreLines text lines
+        ↔ (lines ≡ lines_of text) }
+    ensures exists { (n : ℕ) (lines : List (List ℕ)) →
+        (said : List LineSaid) × AreTimedSaid n lines said }
+    ensures one { (n : ℕ) (lines : List (List ℕ)) (a b : List LineSaid) → AreTimedSaid n lines a →
+        AreTimedSaid n lines b → a ≡ b }
+{
+    timed_lines();
+    laws::names();
+    laws::address_texts();
+    laws::first_faults();
+}
+
+/// The lines of a log with times say the captures of the records of the log without them.
+pub fn timed_records()
+    ensures { (m n : ℕ) (lines bares : List (List ℕ)) (said : List LineSaid)
+        (records : List Numbered) → AreTimedOf lines bares → AreRecords m bares records →
+        AreTimedSaid n lines said → AreCaptured said records }
+{
+    timed_lines();
 }
 
 /// Texts come in the order of their times, where bytes are compared from the left.

@@ -46,11 +46,11 @@ new_among ps p = by (is_among p ps) refl
     by true h = h
     by false h = is_among-append p ps (p ∷ []) ∙ ap (λ (b : Bool). is_among p ps || (b || false)) (same_self p) ∙ or-true (is_among p ps)
 
-listed_with : (s : State) (i m : ℕ) (p : Block) → Listed s i → Listed (with_metric s i p m) i
-listed_with s i m p listed q v h = by ((i == i) && same_prefix q p) refl h
+pub listed_with : (s : State) (i j m : ℕ) (p : Block) → Listed s j → Listed (with_metric s i p m) j
+listed_with s i j m p listed q v h = by ((j == i) && same_prefix q p) refl h
   where
-    by : (b : Bool) → ((i == i) && same_prefix q p) ≡ b → cond b (Some m) (s.shows i q) ≡ Some v → is_among q (with_prefix p s.prefixes) ≡ true
-    by true t e = ap (λ (r : Block). is_among r (with_prefix p s.prefixes)) (same_is q p (and_parts (i == i) (same_prefix q p) t).1) ∙ new_among s.prefixes p
+    by : (b : Bool) → ((j == i) && same_prefix q p) ≡ b → cond b (Some m) (s.shows j q) ≡ Some v → is_among q (with_prefix p s.prefixes) ≡ true
+    by true t e = ap (λ (r : Block). is_among r (with_prefix p s.prefixes)) (same_is q p (and_parts (j == i) (same_prefix q p) t).1) ∙ new_among s.prefixes p
     by false t e = kept_among s.prefixes p q (listed q v e)
 
 -- a metric that stands already adds nothing
@@ -89,7 +89,7 @@ joined-after net i s t [] listed h = let same : s ≡ t = cc h in sym same
 joined-after net i s t (e ∷ es) listed h =
     let split = then-split (joined_at net i s e (s.shows i e.prefix)) (λ u. joined_entries net i u es) t h in
     let is = joined_is net i s split.0 e listed (s.shows i e.prefix) refl split.1 in
-    joined-after net i (with_metric s i e.prefix e.metric) t es (listed_with s i e.metric e.prefix listed) (ap (λ (u : State). joined_entries net i u es) (sym is) ∙ split.2)
+    joined-after net i (with_metric s i e.prefix e.metric) t es (listed_with s i i e.metric e.prefix listed) (ap (λ (u : State). joined_entries net i u es) (sym is) ∙ split.2)
 
 heads_with : {Cell : Type 0} (blank : Cell) (w : ℕ) (rows : Rows Cell) (p : Block) (b : Bool) → heads (cond b rows (rows ++ (p, replicate w blank) ∷ [])) ≡ cond b (heads rows) (heads rows ++ p ∷ [])
 heads_with blank w rows p true = refl

@@ -197,7 +197,7 @@ unplanned_at ps qs k p differ le h = by (is_among p ps) refl
 abbrev pub is_left : Network → Window → Block → Bool
 is_left n w p = is_among p n.prefixes || any_below w.interfaces (λ i. is_some (w.words i p))
 
-any_same : (n : ℕ) (f g : ℕ → Bool) → ((i : ℕ) → f i ≡ g i) → any_below n f ≡ any_below n g
+pub any_same : (n : ℕ) (f g : ℕ → Bool) → ((i : ℕ) → f i ≡ g i) → any_below n f ≡ any_below n g
 any_same n f g h = ap (any_below n) (fun_ext h)
 
 left_row : (n : Network) (heard : List ℕ) (rows : Rows (Option Word)) (others : List Block) → heads rows ≡ n.prefixes ++ others → AreDistinct (heads rows) → IsGrid (length heard) rows
@@ -280,7 +280,7 @@ filter_some test p (q ∷ ps) t h = by (filter_some test p ps t) (same_prefix p 
     by later false e h true k = ap (λ (s : Bool). s || is_among p (filter test ps)) e ∙ later h
     by later false e h false k = later h
 
-any_at : (n : ℕ) (f : ℕ → Bool) (i : ℕ) → i < n → f i ≡ true → any_below n f ≡ true
+pub any_at : (n : ℕ) (f : ℕ → Bool) (i : ℕ) → i < n → f i ≡ true → any_below n f ≡ true
 any_at zero f i lt h = absurd (omega (arith, lt))
 any_at (suc n) f i lt h = by (n == i) refl (any_at n f i)
   where
@@ -303,7 +303,7 @@ forgotten-valid n w h = record {
       record { least = old.least; most = old.most; listed = filter_some (is_left n w) p w.prefixes here old.listed };
 }
 
-filter_append : (test : Block → Bool) (ps qs : List Block) → ((p : Block) → is_among p ps ≡ true → test p ≡ true) → filter test (ps ++ qs) ≡ ps ++ filter test qs
+pub filter_append : (test : Block → Bool) (ps qs : List Block) → ((p : Block) → is_among p ps ≡ true → test p ≡ true) → filter test (ps ++ qs) ≡ ps ++ filter test qs
 filter_append test [] qs h = refl
 filter_append test (p ∷ ps) qs h =
     ap (λ (b : Bool). cond b (p ∷ filter test (ps ++ qs)) (filter test (ps ++ qs))) (h p (ap (λ (b : Bool). b || is_among p ps) (same_self p)))

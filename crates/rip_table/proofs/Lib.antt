@@ -35,3 +35,4 @@ pub mod TallyLemmas
 pub mod StrangerLemmas
 pub mod TalliedLemmas
 pub mod FirstLemmas
+pub mod LastSecondLemmas

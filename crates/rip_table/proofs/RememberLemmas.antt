@@ -17,7 +17,7 @@ use Rattle.rip_table.proofs.WindowLemmas.{nothing_shown}
 
 -- ---- so many seconds later
 
-abbrev metric_in : Option Word → Option ℕ
+abbrev pub metric_in : Option Word → Option ℕ
 metric_in word = option_map (λ (x : Word). x.metric) word
 
 abbrev word_later : ℕ → Option Word → Option Word

@@ -3,7 +3,6 @@ use Rattle.std.proofs.Common.{◌≡◌, ℕ, Bool, true, false, ◌&&◌, ◌||
 use Rattle.std.specs.Option.{option_or}
 use Rattle.rip_table.specs.State.{State}
 use Rattle.rip_table.specs.Joined.{and_then}
-use Rattle.rip_table.specs.declared.error.TableError.{TableError}
 
 pub or-true : (b : Bool) → (b || true) ≡ true
 or-true true = refl
@@ -26,6 +25,6 @@ or-none None = refl
 or-none (Some x) = refl
 
 -- what is joined after a step was joined to what the step gave
-pub then-split : (r : Result State TableError) (f : State → Result State TableError) (t : State) → and_then r f ≡ Ok t → (u : State) × (r ≡ Ok u) × (f u ≡ Ok t)
+pub then-split : {E : Type 0} (r : Result State E) (f : State → Result State E) (t : State) → and_then r f ≡ Ok t → (u : State) × (r ≡ Ok u) × (f u ≡ Ok t)
 then-split (Ok u) f t h = (u, refl, h)
 then-split (Err e) f t h = absurd (cc h)

@@ -12,7 +12,7 @@ use Rattle.rip_plan.specs.Network.{Network}
 use Rattle.rip_plan.specs.Relations.{IsLawful}
 use Rattle.rip_plan.specs.Passes.{same_prefix}
 use Rattle.rip_table.specs.State.{Fits, IsShown, IsState, State, is_among, new_state}
-use Rattle.rip_table.specs.Joined.{Takes, joined_message, with_heard}
+use Rattle.rip_table.specs.Joined.{joined_message, with_heard}
 use Rattle.rip_table.specs.Numbers.{AreFaultless, IsChecked}
 use Rattle.rip_table.specs.Rows.{AreMade, IsGrid, Rows, cell, heads, planned_rows, shown_after}
 use Rattle.rip_table.specs.Window.{Tells, Window, Word, new_window, passed, passed_word, shown, told_message, window_after, with_words, without_shown, word_or}
@@ -27,7 +27,7 @@ use Rattle.rip_table.proofs.NewLemmas.{empty-is}
 use Rattle.rip_table.proofs.TakingLemmas.{entries-memory, is_memory_fault}
 use Rattle.std.specs.List.{slice_get}
 
-same_number : (i : ℕ) → (i == i) ≡ true
+pub same_number : (i : ℕ) → (i == i) ≡ true
 same_number i = by (i == i) refl
   where
     by : (b : Bool) → (i == i) ≡ b → (i == i) ≡ true
@@ -37,7 +37,7 @@ same_number i = by (i == i) refl
 -- ---- a response
 
 -- the words that entries made are those of the metrics that they made, before which nothing was shown
-words_made : (seconds i : ℕ) (old : ℕ → Block → Option Word) (es : List Entry) (f : ℕ → Block → Option ℕ) (g : ℕ → Block → Option Word)
+pub words_made : (seconds i : ℕ) (old : ℕ → Block → Option Word) (es : List Entry) (f : ℕ → Block → Option ℕ) (g : ℕ → Block → Option Word)
     → ((j : ℕ) (q : Block) → g j q ≡ cond (j == i) (word_or seconds (f i q) (old i q)) (old j q))
     → (j : ℕ) (q : Block) → shown_after (new_word seconds) g i es j q ≡ cond (j == i) (word_or seconds (shown_after (λ m. Some m) f i es i q) (old i q)) (old j q)
 words_made seconds i old [] f g h j q = h j q
@@ -59,6 +59,14 @@ words_made seconds i old (e ∷ es) f g h j q =
 pub nothing_shown : (i : ℕ) (s : State) (p : Block) → (without_shown i s).shows i p ≡ None
 nothing_shown i s p = ap (λ (b : Bool). cond b None (s.shows i p)) (same_number i)
 
+-- with no metric, the words are those that were there
+pub none_made : (seconds i : ℕ) (w : Window) (j : ℕ) (q : Block) → w.words j q ≡ cond (j == i) (word_or seconds ((without_shown i (shown w)).shows i q) (w.words i q)) (w.words j q)
+none_made seconds i w j q = by (j == i) refl
+  where
+    by : (b : Bool) → (j == i) ≡ b → w.words j q ≡ cond b (word_or seconds ((without_shown i (shown w)).shows i q) (w.words i q)) (w.words j q)
+    by true e = ap (λ (k : ℕ). w.words k q) (eqb-true j i e) ∙ sym (ap (λ (m : Option ℕ). word_or seconds m (w.words i q)) (nothing_shown i (shown w) q))
+    by false e = refl
+
 after_unshown : (net : Network) (i : ℕ) (s : State) (es : List Entry) → (checked : AreFaultless net i (without_shown i s) es)
     → checked.0 ≡ after_all (with_heard (without_shown i s) i) i es
 after_unshown net i s es checked =
@@ -74,21 +82,14 @@ told-is net seconds i w heard rows new es lt checked made =
     let after = after_unshown net i (shown old) es checked in
     let listed : heads new ≡ t.prefixes = made.heads ∙ heads-with_rows None w rows es ∙ sym (ap (λ (u : State). u.prefixes) after) in
     let unshown = without_shown i (shown old) in
-    let start : (j : ℕ) (q : Block) → cell None rows j q ≡ cond (j == i) (word_or seconds (unshown.shows i q) (cell None rows i q)) (cell None rows j q) =
-    λ j q. first j q (j == i) refl in
     let said : (j : ℕ) (q : Block) → cell None new j q ≡ cond (j == i) (word_or seconds (t.shows i q) (cell None rows i q)) (cell None rows j q) =
-    λ j q. ap (λ (f : ℕ → Block → Option Word). f j q) made.cells ∙ words_made seconds i (cell None rows) es unshown.shows (cell None rows) start j q
+    λ j q. ap (λ (f : ℕ → Block → Option Word). f j q) made.cells ∙ words_made seconds i (cell None rows) es unshown.shows (cell None rows) (none_made seconds i old) j q
     ∙ ap (λ (u : State). cond (j == i) (word_or seconds (u.shows i q) (cell None rows i q)) (cell None rows j q)) (sym after) in
     let marks : ◌≡◌ {A = ℕ → ℕ} (λ j. get_or (set heard i seconds) j 0) (λ j. cond (j == i) seconds (get_or heard j 0)) = fun_ext (λ j. set_at 0 heard i j seconds lt) in
     ap (λ (n : ℕ). record { interfaces = n; prefixes = heads new; words = cell None new; heard = λ j. get_or (set heard i seconds) j 0 }) (length-set heard i seconds)
     ∙ ap (λ (ps : List Block). record { interfaces = length heard; prefixes = ps; words = cell None new; heard = λ j. get_or (set heard i seconds) j 0 }) listed
     ∙ ap (λ (f : ℕ → Block → Option Word). record { interfaces = length heard; prefixes = t.prefixes; words = f; heard = λ j. get_or (set heard i seconds) j 0 }) (fun_ext (λ j. fun_ext (said j)))
     ∙ ap (λ (f : ℕ → ℕ). record { interfaces = length heard; prefixes = t.prefixes; words = (with_words seconds i old t).words; heard = f }) marks
-  where
-    first : (j : ℕ) (q : Block) (b : Bool) → (j == i) ≡ b
-        → cell None rows j q ≡ cond b (word_or seconds ((without_shown i (shown (window_of heard rows))).shows i q) (cell None rows i q)) (cell None rows j q)
-    first j q true e = ap (λ (k : ℕ). cell None rows k q) (eqb-true j i e) ∙ sym (ap (λ (m : Option ℕ). word_or seconds m (cell None rows i q)) (nothing_shown i (shown (window_of heard rows)) q))
-    first j q false e = refl
 
 kept_after : (es : List Entry) (ps : List Block) (q : Block) → is_among q ps ≡ true → is_among q (prefixes_after ps es) ≡ true
 kept_after [] ps q h = h

@@ -1,8 +1,10 @@
 -- The seconds of a log with times, and what is to be seen at the end of each.
-use Rattle.std.specs.Prelude.{ℕ, ◌+◌, ◌-◌, ◌/◌, nat_lt, if◌then◌else◌, zero, suc, List, [], ◌∷◌, ◌++◌, Option, Some, None}
+use Rattle.std.specs.Prelude.{◌≡◌, ℕ, ◌<◌, ◌+◌, ◌-◌, ◌/◌, nat_lt, if◌then◌else◌, zero, suc, List, [], ◌∷◌, ◌++◌, Option, Some, None, slice_get}
 use Rattle.rip_plan.specs.Network.{Network}
 use Rattle.rip_log.specs.TimedText.{LineSaid, TimedSaid, captured, bad, untimed}
 use Rattle.rip_table.specs.Scenes.{View, after_said, closed_view, new_view, passed_view}
+use Rattle.rip_table.specs.State.{State}
+use Rattle.rip_table.specs.Window.{shown}
 
 -- so many seconds from this one on, in which no line comes
 abbrev pub quiet : Network → ℕ → ℕ → View → List (ℕ × View)
@@ -45,3 +47,24 @@ from_first n window (Some second) lines = seconds_of n window second (new_view n
 abbrev pub log_seconds : Network → ℕ → List LineSaid → List (ℕ × View)
 log_seconds n window [] = []
 log_seconds n window (l ∷ lines) = from_first n window (own_second l.said) (l ∷ lines)
+
+-- ---- a log that lies within a window
+
+-- the first line has a second, and each line comes less than so many seconds after it
+pub record AreWithin (window : ℕ) (said : List LineSaid) : Type 0 where
+  pub first : LineSaid
+  pub rest : List LineSaid
+  pub split : said ≡ first ∷ rest
+  pub second : ℕ
+  pub begins : own_second first.said ≡ Some second
+  pub close : (k own : ℕ) (l : LineSaid) → slice_get said k ≡ Some l
+      → own_second l.said ≡ Some own → own < second + window
+
+-- at the end of the last of these seconds there is no episode, and this is shown
+pub record EndsShowing (seconds : List (ℕ × View)) (s : State) : Type 0 where
+  pub before : List (ℕ × View)
+  pub second : ℕ
+  pub view : View
+  pub split : seconds ≡ before ++ (second, view) ∷ []
+  pub calm : view.episode ≡ None
+  pub shows : shown view.window ≡ s

@@ -17,9 +17,10 @@ ghost use Rattle.rip_table.specs.Firsts.{IsUpToRefusal};
 ghost use Rattle.rip_table.specs.Tallies.{counts_of};
 ghost use Rattle.rip_table.specs.LogJoin.{AreJoined, HasBadEntry, IsFirstRefused, IsJoin, IsJoined, IsListed, IsOutcome, IsResponse};
 ghost use Rattle.rip_table.specs.Window.{Window, forgotten, new_window, passed, shown, told_message};
-ghost use Rattle.rip_log.specs.TimedText.{TimedSaid};
+ghost use Rattle.rip_log.specs.TimedText.{AreCaptured, LineSaid, TimedSaid};
 ghost use Rattle.rip_table.specs.Remembered.{Remembers, Taken};
 ghost use Rattle.rip_table.specs.Scenes.{LastsFor, View, after_said, closed_view, new_view, passed_view};
+ghost use Rattle.rip_table.specs.Seconds.{AreWithin, EndsShowing, log_seconds};
 ghost use Rattle.rip_table.specs.declared.error.CollectCause.{CollectCause};
 ghost use Rattle.rip_table.specs.declared.error.CollectCause.TheVariants.{Table};
 ghost use Rattle.rip_table.specs.declared.error.TableError.{TableError};
@@ -188,6 +189,18 @@ pub fn lasting_scenes()
     ensures over { (v : View) → LastsFor 0 v → passed_view v ≡ v }
     ensures once { (n : Network) (v : View) → closed_view n (closed_view n v) ≡ closed_view n v }
 {}
+
+/// A log that lies within a window and is joined ends with the table that it makes: what is shown at
+/// the end of its last second, in no episode, is what the log makes of a table without its times.
+pub fn last_seconds()
+    ensures { (n : Network) (window : ℕ) (said : List LineSaid) (records : List Numbered)
+        (s : State) → IsLawful n → AreWithin window said → AreCaptured said records →
+        IsJoined n (new_state n) records s → EndsShowing (log_seconds n window said) s }
+{
+    new_states();
+    joined_logs();
+    rip_plan::laws::senders();
+}
 
 /// The interface that is found for a link and a sender is the one that has the address there.
 pub fn found_interfaces()
