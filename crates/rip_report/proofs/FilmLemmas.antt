@@ -1,6 +1,8 @@
 -- How far a film has come.
-use Rattle.std.proofs.Common.{◌≡◌, ◌≢◌, ◌∙◌, ◌+◌, ◌-◌, ◌<◌, ◌≤◌, ◌++◌, nat_lt, [], ◌∷◌, ℕ, zero, suc, Bool, true, false, cond, List, Option, Some, None, refl, sym, ap, subst, append_assoc, append-nil, arith}
+use Rattle.std.proofs.Common.{◌≡◌, ◌≢◌, ◌∙◌, ◌+◌, ◌-◌, ◌<◌, ◌≤◌, ◌++◌, nat_lt, [], ◌∷◌, ℕ, zero, suc, Bool, true, false, cond, List, Option, Some, None, Result, Ok, Err, IfOk, refl, sym, ap, subst, append_assoc, append-nil, arith}
 use Rattle.std.proofs.lemmas.Bool.{ltb-true}
+use Rattle.std.specs.Prelude.{OnErr}
+use Rattle.std.specs.declared.alloc.AllocError.{AllocError}
 use Rattle.rip_log.specs.TimedCall.{bad_said, timed_capture, timed_said_of}
 use Rattle.rip_log.specs.TimedText.{LineSaid, captured, untimed}
 use Rattle.rip_log.specs.declared.error.LogCode.{LogCode}
@@ -11,12 +13,14 @@ use Rattle.rip_plan.specs.Network.{Network}
 use Rattle.rip_table.specs.Scenes.{View, after_line, after_said, closed_view, new_view}
 use Rattle.rip_table.specs.Seconds.{after_quiet, from_first, later_second, log_seconds, own_second, quiet, seconds_of}
 use Rattle.rip_table.specs.declared.scene.LineCause.TheVariants.{Log}
-use Rattle.rip_report.specs.Films.{HasShown, LineBegun, QuietFilm, Stage, line_second, seconds_before, with_line}
+use Rattle.rip_report.specs.Films.{EndsFilm, HasShown, IsNotTimed, LineBegun, QuietFilm, Stage, TakesLine, line_second, seconds_before, with_line}
+use Rattle.rip_report.specs.Outs.{AddsOne, Progress}
 use Rattle.rip_report.specs.RefusalText.{refusal_line}
 use Rattle.rip_report.specs.WatchText.{AreNotSettled, FilmOf, FilmToSettled, IsShot, Shots, Watched, WatchedFront}
 use Rattle.rip_report.specs.Written.{Written}
 use Rattle.rip_report.specs.declared.status.Status.{Status}
 use Rattle.rip_report.specs.declared.status.Status.TheVariants.{Done, Refused, Settled, Unclear, Unsettled}
+use Rattle.rip_report.proofs.OutLemmas.{added_also, adds_nothing, adds_one}
 use Rattle.rip_report.proofs.WatchLemmas.{both_not, film_none, not_settled, quiet_less, shots_one, shots_then}
 
 -- ---- the seconds to come
@@ -59,7 +63,10 @@ quiet_front n k count second v few =
 -- those of a log, where the first of its seconds, and then so many quiet ones, are before the others
 module _ {n : Network} {window second : ℕ} {v : View} {all to_come : List LineSaid} {before : List (ℕ × View)} (line : TimedLine)
     (is : log_seconds n window all ≡ before ++ seconds_of n window second v (with_line line to_come)) where
+  abbrev count : ℕ
   count = seconds_before second line
+
+  abbrev behind : List (ℕ × View)
   behind = seconds_of n window (second + count) (after_line n window line (after_quiet n count v)) to_come
 
   passed : log_seconds n window all ≡ (before ++ quiet n count second v) ++ behind
@@ -106,7 +113,7 @@ module _ {n : Network} {window : ℕ} {until : Bool} {old : Stage} (line : Timed
       → (all to_come : List LineSaid) (text : List ℕ) → HasShown n window until old all (with_line line to_come) text
       → Watched n window until all (record { text = text ++ more; status = Settled })
   shown_settled ended more film all to_come text (HasShown.nothing not_yet last was same none) = absurd (cc (begun, not_yet))
-  shown_settled ended more (is, k, lt, settled) all to_come text (HasShown.seconds before has seconds shown) =
+  shown_settled ended more (is, (k, lt, settled)) all to_come text (HasShown.seconds before has seconds shown) =
       let count = seconds_before old.second line in
       let few : k + 1 ≤ count = omega (arith, lt) in
       Watched.to_settled (text ++ more) ended (before ++ quiet n (k + 1) old.second old.view) _ is (stopped line seconds (k + 1) few) (settled_then is shown settled)
@@ -115,7 +122,7 @@ module _ {n : Network} {window : ℕ} {until : Bool} {old : Stage} (line : Timed
   pub shown_begun : (more : List ℕ) → LineBegun n until old.last old.second old.view (seconds_before old.second line) more
       → (all to_come : List LineSaid) (text : List ℕ) → HasShown n window until old all (with_line line to_come) text → WatchedFront n window until all (text ++ more)
   shown_begun more film all to_come text (HasShown.nothing not_yet last was same none) = absurd (cc (begun, not_yet))
-  shown_begun more (k, lt, ended, film) all to_come text (HasShown.seconds before has seconds shown) =
+  shown_begun more (k, lt, (ended, film)) all to_come text (HasShown.seconds before has seconds shown) =
       let count = seconds_before old.second line in
       let few : k ≤ count = omega (arith, lt) in
       WatchedFront.seconds ended (before ++ quiet n k old.second old.view) _ (stopped line seconds k few) (films_then shown film)
@@ -162,6 +169,7 @@ pub shown_last : {n : Network} {window : ℕ} {until : Bool} (old : Stage) (more
 shown_last old more w begun shot all text (HasShown.nothing not_yet last is same none) = absurd (cc (begun, not_yet))
 shown_last {n = n} {window = window} {until = until} old more w begun shot all text (HasShown.seconds before has seconds shown) = by until w.status refl refl
   where
+    front : List (ℕ × View)
     front = before ++ (old.second, closed_view n old.view) ∷ []
 
     shots : Shots n [] (log_seconds n window all) (text ++ more) w.text (shown.0 ++ w.status ∷ [])
@@ -194,3 +202,40 @@ pub shown_front : {n : Network} {window : ℕ} {until : Bool} (old : Stage) (all
 shown_front {n = n} {window = window} {until = until} old all to_come text (HasShown.seconds before has seconds shown) = WatchedFront.seconds old.last before _ seconds shown
 shown_front {n = n} {window = window} {until = until} old all to_come text (HasShown.nothing not_yet last is same nothing) =
     WatchedFront.seconds [] [] (log_seconds n window all) refl (subst (λ (t : List ℕ). FilmOf n until [] [] [] t) (sym nothing) (film_none n until []))
+
+-- ---- what taking in a line adds
+
+-- a first line that begins a film is taken in as each further one
+pub first_takes : (n : Network) (window : ℕ) (until : Bool) (line : TimedLine) (old begun : Stage) {new : Stage} {before after : Progress} (result : Result (Option Status) AllocError)
+    → old.begun ≡ false → line_second line ≡ Some begun.second → begun.begun ≡ true → begun.last ≡ old.last → begun.view ≡ old.view
+    → TakesLine n window until line begun new before after result → TakesLine n window until line old new before after result
+first_takes n window until line old begun (Ok None) was own begins last view takes =
+    added_also (λ more goes_on all to_come text shown. goes_on all to_come text (shown_first old begun was line own begins last view all to_come text shown)) takes
+first_takes n window until line old begun (Ok (Some status)) was own begins last view takes =
+    added_also (λ more ends all to_come text shown. ends all to_come text (shown_first old begun was line own begins last view all to_come text shown)) takes
+first_takes n window until line old begun (Err e) was own begins last view takes =
+    added_also (λ more lacks all to_come text shown. lacks all to_come text (shown_first old begun was line own begins last view all to_come text shown)) takes
+
+-- a first line without a time is refused or skipped
+pub takes_untimed : {n : Network} {window : ℕ} {until : Bool} {line : TimedLine} {old : Stage} {before after : Progress} (result : Option Status) → old.begun ≡ false
+    → IsNotTimed line before after result → TakesLine n window until line old old before after (Ok result)
+takes_untimed {n = n} {window = window} {until = until} {line = line} {old = old} {before = before} None was (skipped, same) =
+    rw same (adds_nothing (λ all to_come text shown.
+    shown_skipped old all to_come text (subst (λ (l : TimedLine). HasShown n window until old all (with_line l to_come) text) skipped shown)))
+takes_untimed {n = n} {window = window} {until = until} {line = line} {old = old} (Some status) was (fault, is, none, refused, adds) =
+    adds_one (λ all to_come text shown.
+    subst (λ (s : Status). Watched n window until all (record { text = text ++ refusal_line fault.line (Log fault.code); status = s })) (sym refused)
+    (shown_untimed old fault was none all to_come text (subst (λ (l : TimedLine). HasShown n window until old all (with_line l to_come) text) is shown))) adds
+
+-- ---- what the end adds
+
+pub ends_film : {n : Network} {window : ℕ} {until : Bool} {old : Stage} {before after : Progress} {last : List ℕ} {v : View} (result : Result Status AllocError) → old.begun ≡ true → v ≡ closed_view n old.view
+    → IfOk result (λ status. AddsOne before after (IsShot n old.second v old.last (record { text = last; status = status }))) → OnErr result (after ≡ before)
+    → EndsFilm n window until old before after result
+ends_film {n = n} {old = old} {last = last} (Ok status) begun view shot nothing =
+    let w : Written = record { text = last; status = status } in
+    added_also (λ more shot. shown_last old more w begun (subst (λ (u : View). IsShot n old.second u old.last w more) view shot)) shot
+ends_film (Err e) begun view shot nothing = nothing
+
+pub ends_nothing : {n : Network} {window : ℕ} {until : Bool} {old : Stage} {before : Progress} → old.begun ≡ false → EndsFilm n window until old before before (Ok Unclear)
+ends_nothing {old = old} was = adds_nothing (λ all text shown. shown_nothing old was all text shown)

@@ -1,11 +1,14 @@
--- A film ends settled exactly where a second is right.
+-- What the last verdict of a film says.
 use Rattle.std.proofs.Common.{◌≡◌, ◌≢◌, ◌∙◌, ◌++◌, [], ◌∷◌, ℕ, zero, suc, Bool, true, false, ◌↔◌, List, None, refl, sym, ap, subst, append_assoc, append-nil, arith}
-use Rattle.rip_log.specs.TimedText.{LineSaid, untimed}
+use Rattle.rip_log.specs.TimedText.{LineSaid, TimedSaid, untimed}
 use Rattle.rip_log.specs.declared.error.LogCode.{LogCode}
 use Rattle.rip_plan.specs.Network.{Network}
 use Rattle.rip_table.specs.Scenes.{View}
-use Rattle.rip_table.specs.Seconds.{from_first, log_seconds, own_second}
-use Rattle.rip_report.specs.WatchText.{AreNotSettled, EndsRight, FilmToSettled, IsRightSecond, SettlesRightly, Shots, Watched}
+use Rattle.rip_table.specs.Seconds.{EndsShowing, from_first, log_seconds, own_second}
+use Rattle.rip_table.specs.State.{State}
+use Rattle.rip_table.specs.Window.{shown}
+use Rattle.rip_report.specs.AuditText.{VerdictText}
+use Rattle.rip_report.specs.WatchText.{AreNotSettled, EndsRight, IsVerdictStatus, SceneText, SettlesRightly, Shots, Watched}
 use Rattle.rip_report.specs.Written.{Written}
 use Rattle.rip_report.specs.declared.status.Status.{Status}
 use Rattle.rip_report.specs.declared.status.Status.TheVariants.{Refused, Settled, Unclear}
@@ -67,6 +70,9 @@ record LastSecond (n : Network) (seconds : List (ℕ × View)) (status : Status)
   view : View
   split : seconds ≡ before ++ (second, view) ∷ []
   settles : SettlesRightly n view status
+  verdict : Written
+  says : SceneText n view verdict
+  same : verdict.status ≡ status
 
 last_second : {n : Network} {last text ended : List ℕ} {seconds : List (ℕ × View)} {all : List Status} (ss : List Status) (status : Status) → Shots n last seconds text ended all
     → all ≡ ss ++ status ∷ [] → LastSecond n seconds status
@@ -81,6 +87,9 @@ last_second {n = n} [] status (Shots.one last text more ended second v w seconds
       view = v;
       split = ap (λ (xs : List (ℕ × View)). (second, v) ∷ xs) (no_seconds rest none);
       settles = subst (SettlesRightly n v) same shot.settles;
+      verdict = w;
+      says = shot.verdict;
+      same = same;
     }
 last_second (s ∷ ss) status (Shots.one last text more ended second v w seconds statuses shot rest) is =
     let later : statuses ≡ ss ++ status ∷ [] = cc is in
@@ -91,9 +100,12 @@ last_second (s ∷ ss) status (Shots.one last text more ended second v w seconds
       view = found.view;
       split = ap (λ (xs : List (ℕ × View)). (second, v) ∷ xs) found.split;
       settles = found.settles;
+      verdict = found.verdict;
+      says = found.says;
+      same = found.same;
     }
 
-same_last : (xs ys : List Status) (a b : Status) → xs ++ a ∷ [] ≡ ys ++ b ∷ [] → a ≡ b
+same_last : {A : Type 0} (xs ys : List A) (a b : A) → xs ++ a ∷ [] ≡ ys ++ b ∷ [] → a ≡ b
 same_last [] [] a b h = cc h
 same_last [] (y ∷ []) a b h = absurd (cc h)
 same_last [] (y ∷ z ∷ ys) a b h = absurd (cc h)
@@ -103,16 +115,18 @@ same_last (x ∷ xs) (y ∷ ys) a b h = let rest : xs ++ a ∷ [] ≡ ys ++ b �
 
 -- ---- the end
 
+never : (before : List (ℕ × View)) (x : ℕ × View) (after : List (ℕ × View)) → [] ≡ before ++ x ∷ after → ⊥
+never [] x after h = absurd (cc h)
+never (y ∷ before) x after h = absurd (cc h)
+
 no_right : (n : Network) (window : ℕ) (until : Bool) (said : List LineSaid) → log_seconds n window said ≡ [] → EndsRight n window until said → ⊥
-no_right n window until said none (before, after, second, v, is, last, right) = by before (sym none ∙ is)
-  where
-    by : (before : List (ℕ × View)) → [] ≡ before ++ (second, v) ∷ after → ⊥
-    by [] h = absurd (cc h)
-    by (x ∷ before) h = absurd (cc h)
+no_right n window until said none (before, after, second, v, is, last, right) = never before (second, v) after (sym none ∙ is)
+
+untimed_none : (n : Network) (window : ℕ) (said : List LineSaid) (first : LineSaid) (others : List LineSaid) (code : LogCode) → said ≡ first ∷ others → first.said ≡ untimed code
+    → log_seconds n window said ≡ []
+untimed_none n window said first others code is none = ap (log_seconds n window) is ∙ ap (λ (t : TimedSaid). from_first n window (own_second t) (first ∷ others)) none
 
 module _ {n : Network} {window : ℕ} {until : Bool} {said : List LineSaid} where
-  untimed_none : (first : LineSaid) (others : List LineSaid) (code : LogCode) → said ≡ first ∷ others → first.said ≡ untimed code → log_seconds n window said ≡ []
-  untimed_none first others code is none = ap (log_seconds n window) is ∙ ap (λ t. from_first n window (own_second t) (first ∷ others)) none
 
   pub ends_right : {w : Written} → Watched n window until said w → (w.status ≡ Settled) ↔ EndsRight n window until said
   ends_right (Watched.no_line none) = (
@@ -121,7 +135,7 @@ module _ {n : Network} {window : ℕ} {until : Bool} {said : List LineSaid} wher
   )
   ends_right (Watched.no_time first others code is none) = (
     λ is. let same : Refused ≡ Settled = is in absurd (cc same),
-    λ right. absurd (no_right n window until said (untimed_none first others code is none) right),
+    λ right. absurd (no_right n window until said (untimed_none n window said first others code is none) right),
   )
   ends_right (Watched.to_end text ended statuses status shots none) = by until refl
     where
@@ -149,3 +163,21 @@ module _ {n : Network} {window : ℕ} {until : Bool} {said : List LineSaid} wher
         (last.before, after, last.second, last.view, whole, λ no. absurd (cc (is, no)), last.settles.right.0 refl),
     λ right. refl,
   )
+
+  -- where a film that goes to the end of a log ends in no episode, its status is that of the verdict on what is shown
+  pub ends_verdict : {w : Written} (s : State) → until ≡ false → Watched n window until said w → EndsShowing (log_seconds n window said) s → IsVerdictStatus n s w.status
+  ends_verdict s goes_on (Watched.no_line none) ends = absurd (never ends.before (ends.second, ends.view) [] (sym (ap (log_seconds n window) none) ∙ ends.split))
+  ends_verdict s goes_on (Watched.no_time first others code is none) ends = absurd (never ends.before (ends.second, ends.view) [] (sym (untimed_none n window said first others code is none) ∙ ends.split))
+  ends_verdict s goes_on (Watched.to_settled text ended before after is split film) ends = absurd (cc (goes_on, is))
+  ends_verdict s goes_on (Watched.to_end text ended statuses status shots none) ends =
+      let last = last_second statuses status shots refl in
+      let one = same_last last.before ends.before (last.second, last.view) (ends.second, ends.view) (sym last.split ∙ ends.split) in
+      let view : last.view ≡ ends.view = ap (λ (x : ℕ × View). x.1) one in
+      let verdict = of_shown (subst (λ (v : View). SceneText n v last.verdict) view last.says) ends.calm in (
+        last.verdict.text,
+        subst (λ (t : Status). VerdictText n s false (record { text = last.verdict.text; status = t })) last.same (subst (λ (t : State). VerdictText n t false last.verdict) ends.shows verdict),
+      )
+    where
+      of_shown : {v : View} {w : Written} → SceneText n v w → v.episode ≡ None → VerdictText n (shown v.window) false w
+      of_shown (SceneText.a_refusal e is) calm = absurd (cc (is, calm))
+      of_shown (SceneText.of_table w calm verdict) is = verdict

@@ -35,7 +35,7 @@ says_some exists k (Some text) = exists k (lines_of text)
 pub says_none : (k : ℕ) (t left : Option (List ℕ)) → Keeps t left → HasLine left false → SaysBehind k t []
 says_none k None left keeps none = tt
 says_none k (Some t) None keeps none = absurd keeps
-says_none k (Some t) (Some rest) keeps none = ap lines_of (keeps ∙ none)
+says_none k (Some t) (Some rest) keeps none = let same : rest ≡ t = keeps in let over : rest ≡ [] = none in subst (λ (l : List ℕ). AreTimedSaid k (lines_of l) []) (sym over ∙ same) refl
 
 -- one line more was passed
 pub passes_more : (text t left : Option (List ℕ)) (line : Option TimedSaid) (k : ℕ) → PassesLines text 0 t k → TakesTimed t left line → PassesLines text 0 left (k + 1)

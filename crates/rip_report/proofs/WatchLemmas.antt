@@ -61,15 +61,15 @@ settles_refused n v r h = record {
 }
 
 -- and in none it is by the table that is shown
-pub settles_judged : {result : Result Status AllocError} (n : Network) (v : View) (s : State) → s ≡ shown v.window → v.episode ≡ None → IfOk result (IsJudged n s) → IfOk result (SettlesRightly n v)
-settles_judged {result = Ok status} n v s same none judged = record {
+pub settles_judged : (result : Result Status AllocError) (n : Network) (v : View) (s : State) → s ≡ shown v.window → v.episode ≡ None → IfOk result (IsJudged n s) → IfOk result (SettlesRightly n v)
+settles_judged (Ok status) n v s same none judged = record {
   right = (
     λ settled. (none, subst (λ (t : State). ShowsRightTables n (told n t)) same (judged.settled.0 settled)),
     λ right. judged.settled.1 (subst (λ (t : State). ShowsRightTables n (told n t)) (sym same) right.1),
   );
   arrive = λ settled. subst (λ (t : State). PacketsArrive n (told n t)) same (judged.arrive settled);
 }
-settles_judged {result = Err e} n v s same none judged = tt
+settles_judged (Err e) n v s same none judged = tt
 
 -- ---- a second
 

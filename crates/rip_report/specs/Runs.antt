@@ -1,5 +1,5 @@
 -- What runs print and leave: each on a plan, or on a plan and a log, by the texts of its command.
-use Rattle.std.specs.Prelude.{◌≡◌, ◌≢◌, ◌≤◌, ℕ, Bool, true, List, ◌++◌, length, Option, Some, Result, Err, IfOk}
+use Rattle.std.specs.Prelude.{◌≡◌, ◌≢◌, ◌↔◌, ◌≤◌, ℕ, Bool, true, false, List, ◌++◌, length, Option, Some, Result, Err, IfOk}
 use Rattle.rip_log.specs.declared.sink.Sink.{Ghosts as SinkOf}
 use Rattle.rip_log.specs.declared.source.Source.{Ghosts as SourceOf}
 use Rattle.rip_log.specs.LogText.{AreLines}
@@ -15,10 +15,11 @@ use Rattle.rip_table.specs.declared.error.CollectError.{CollectError}
 use Rattle.rip_report.specs.Given.{IsGiven}
 use Rattle.rip_report.specs.Hearings.{EventsText, IsUnread}
 use Rattle.rip_report.specs.PlanText.{IsNoText, OfPlan}
-use Rattle.rip_report.specs.ReportText.{IsAccepted, LogMakes, ReportText}
+use Rattle.rip_report.specs.ReportText.{IsAccepted, IsTable, LogMakes, ReportText}
 use Rattle.rip_report.specs.Films.{IsUnreadTo}
 use Rattle.rip_report.specs.Sent.{Prints, PrintsAlong, WentOut}
-use Rattle.rip_report.specs.WatchText.{WatchFront, WatchText}
+use Rattle.rip_report.specs.WatchText.{EndsRight, IsVerdictStatus, LiesWithin, WatchFront, WatchText, WatchedLog, WatchedLogFront}
+use Rattle.rip_log.specs.TimedText.{LineSaid, TextSays}
 use Rattle.rip_report.specs.Written.{Written}
 use Rattle.rip_report.specs.declared.status.Status.{Status}
 use Rattle.rip_report.specs.declared.status.Status.TheVariants.{Refused, Settled}
@@ -127,7 +128,36 @@ pub record RunsToEnd {R K : Type 0} (source : SourceOf R) (sink : SinkOf K)
   -- if the plan is refused, the log is not touched; one that is no text never gives Memory
   pub refuses : RefusesPlan plan log run.0 run.2
 
--- a run on a plan and a log with times: what it prints for the lines, and for a beginning of them
+-- what a run leaves of the source of a log with times
+pub record DrawsTimes {R : Type 0} (source : SourceOf R) (until : Bool) (log new : R)
+    (result : Result Status RunError) : Type 0 where
+  pub draws : Draws source.given source.coming source.broken source.at_end log new result
+  -- Read only where the source has failed, or a line or the number of lines has no end
+  pub read : (text : List ℕ) → IsGiven source.given source.at_end log new text →
+      result ≡ Err Read → IsUnreadTo (source.broken new) (Some text)
+  -- it ends before the source does only by a refusal, or where a settled second ends it
+  pub ended : IfOk result (λ status. (until ≡ true → status ≢ Settled) → status ≢ Refused →
+      source.at_end new ≡ true)
+
+-- a run on a log with times by a plan
+pub record Watches {R K : Type 0} (source : SourceOf R) (sink : SinkOf K) (window : ℕ)
+    (until : Bool) (n : Network) (log : R) (out : K) (run : R × K × Result Status RunError)
+    : Type 0 where
+  -- the whole text went out, or a beginning of what is printed for a beginning of the log
+  pub prints : (text : List ℕ) → IsGiven source.given source.at_end log run.0 text →
+      PrintsAlong sink.taken sink.broken out run.1 run.2
+      (WatchedLog n window until text) (WatchedLogFront n window until text)
+  pub draws : DrawsTimes source until log run.0 run.2
+  -- the status is Settled exactly where the last second is right, or any that ends it
+  pub settled : (text : List ℕ) → IsGiven source.given source.at_end log run.0 text →
+      (said : List LineSaid) → TextSays text said →
+      IfOk run.2 (λ status. (status ≡ Settled) ↔ EndsRight n window until said)
+  -- of a log within one window it is that of the verdict on the table of the log without times
+  pub film : (text plain : List ℕ) → IsGiven source.given source.at_end log run.0 text →
+      LiesWithin window text plain → until ≡ false → (s : State) → IsTable n plain s →
+      IfOk run.2 (IsVerdictStatus n s)
+
+-- a run on a plan and a log with times
 pub record RunsOnTimes {R K : Type 0} (source : SourceOf R) (sink : SinkOf K) (window : ℕ)
     (until : Bool) (plan : List ℕ) (log : R) (out : K) (run : R × K × Result Status RunError)
     : Type 0 where
@@ -135,12 +165,6 @@ pub record RunsOnTimes {R K : Type 0} (source : SourceOf R) (sink : SinkOf K) (w
   pub prints : (text : List ℕ) → IsGiven source.given source.at_end log run.0 text →
       PrintsAlong sink.taken sink.broken out run.1 run.2
       (WatchText window until plan text) (WatchFront window until plan text)
-  pub draws : Draws source.given source.coming source.broken source.at_end log run.0 run.2
-  -- Read only where the source has failed, or a line or the number of lines has no end
-  pub read : (text : List ℕ) → IsGiven source.given source.at_end log run.0 text →
-      run.2 ≡ Err Read → IsUnreadTo (source.broken run.0) (Some text)
-  -- it ends before the source does only by a refusal, or where a settled second ends it
-  pub ended : IfOk run.2 (λ status. (until ≡ true → status ≢ Settled) → status ≢ Refused →
-      source.at_end run.0 ≡ true)
+  pub draws : DrawsTimes source until log run.0 run.2
   -- if the plan is refused, the log is not touched; one that is no text never gives Memory
   pub refuses : RefusesPlan plan log run.0 run.2

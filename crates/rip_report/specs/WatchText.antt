@@ -1,11 +1,13 @@
 -- What `watch` prints.
 use Rattle.std.specs.Prelude.{◌≡◌, ◌≢◌, ◌↔◌, ℕ, Bool, true, false, List, [], ◌∷◌, ◌++◌, All, codes, Some, None}
 use Rattle.rip_plan.specs.Network.{Network}
-use Rattle.rip_log.specs.TimedText.{LineSaid, TextSays, untimed}
+use Rattle.rip_log.specs.LogText.{AreLines}
+use Rattle.rip_log.specs.TimedText.{AreTimedOf, AreTimedSaid, LineSaid, TextSays, untimed}
 use Rattle.rip_log.specs.Times.{IsSecondText}
 use Rattle.rip_log.specs.declared.error.LogCode.{LogCode}
 use Rattle.rip_table.specs.Scenes.{View}
-use Rattle.rip_table.specs.Seconds.{log_seconds}
+use Rattle.rip_table.specs.Seconds.{AreWithin, log_seconds}
+use Rattle.rip_table.specs.State.{State}
 use Rattle.rip_table.specs.Window.{shown}
 use Rattle.rip_check.specs.Laws.{ShowsRightTables}
 use Rattle.rip_check.specs.Told.{told}
@@ -119,3 +121,21 @@ WatchText window until plan log = OfPlan (λ n. WatchedLog n window until log) p
 
 abbrev pub WatchFront : ℕ → Bool → List ℕ → List ℕ → Written → Type 0
 WatchFront window until plan log = OfPlan (λ n. WatchedLogFront n window until log) plan
+
+-- ---- a log that lies within a window
+
+-- the text of a log with times that lie within so many seconds, and that of the log without them
+pub record LiesWithin (window : ℕ) (text plain : List ℕ) : Type 0 where
+  pub lines : List (List ℕ)
+  pub are_lines : AreLines text lines
+  pub bares : List (List ℕ)
+  pub are_bares : AreLines plain bares
+  pub timed : AreTimedOf lines bares
+  pub said : List LineSaid
+  pub says : AreTimedSaid 0 lines said
+  pub within : AreWithin window said
+
+-- a status is that of a verdict on the table
+abbrev pub IsVerdictStatus : Network → State → Status → Type 0
+IsVerdictStatus n s status =
+    (text : List ℕ) × VerdictText n s false (record { text = text; status = status })

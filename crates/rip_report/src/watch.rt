@@ -6,26 +6,27 @@ ghost use Rattle.std.specs.Prelude.{◌≡◌, ◌≢◌, ◌↔◌, ◌≤◌, 
 ghost use Rattle.rip_log.specs.TimedCall.{timed_lines, timed_said_of, timed_source, timed_text};
 ghost use Rattle.rip_log.specs.TimedText.{IsEarly, LineSaid, TextSays};
 ghost use Rattle.rip_log.specs.Wholes.{OfWhole, Went};
+ghost use Rattle.rip_log.specs.declared.limits.TheConstants.{MOST_SECONDS};
 ghost use Rattle.rip_plan.specs.Network.{Network};
 ghost use Rattle.rip_plan.specs.PlanOf.{IsPlanOfText};
-ghost use Rattle.rip_table.specs.State.{Fits};
+ghost use Rattle.rip_table.specs.State.{Fits, State};
 ghost use Rattle.rip_table.specs.Window.{new_window, shown};
 ghost use Rattle.rip_report.specs.Films.{EndsFilm, IsNew, IsNotTimed, IsStage, IsUnreadTo, ShowsText, TakesLine, line_second, stage_of};
 ghost use Rattle.rip_report.specs.Given.{IsGiven};
 ghost use Rattle.rip_report.specs.Outs.{AddsOne, HasGoneOut};
-ghost use Rattle.rip_report.specs.Runs.{Draws, RunsOnTimes};
-ghost use Rattle.rip_report.specs.Sent.{PrintsAlong};
-ghost use Rattle.rip_report.specs.WatchText.{EndsRight, WatchedLog, WatchedLogFront};
+ghost use Rattle.rip_report.specs.ReportText.{IsAccepted};
+ghost use Rattle.rip_report.specs.Runs.{RunsOnTimes, Watches};
+ghost use Rattle.rip_report.specs.WatchText.{EndsRight, IsVerdictStatus, LiesWithin};
 
 use crate::output::Out;
 use crate::refusal::{push_refusal_line, refuse_plan};
 use crate::status::{RunError, Status};
 use film::{Film, second_of};
-// use rip_log::laws::timed_texts;
+use rip_log::laws::{timed_records, timed_texts};
 use rip_log::{Failed, Sink, Source, TimedLine, TimedReader};
 use rip_plan::Plan;
 use rip_plan::laws::{one_plan, well_formed_texts};
-use rip_table::laws::lasting_scenes;
+use rip_table::laws::{last_seconds, lasting_scenes};
 use rip_table::{GridWindow, LineCause, Scene, WindowLength, WindowTable};
 use std::alloc::{AllocError, Global};
 use std::hash::BuildHasher;
@@ -83,23 +84,23 @@ impl<T: WindowTable> Watch<T> {
         &mut self,
         alloc: Global,
         plan: &Plan,
-        watching: Watching,
+        watching: &Watching,
         line: &TimedLine<'_>,
         out: &mut Out<K>,
     ) -> Result<Option<Status>, AllocError>
         requires begun { self.old.begun ≡ true }
-        requires stage { IsStage plan.now watching.length (stage_of T.window self.old) }
+        requires stage { IsStage plan.now watching.now.length (stage_of T.window self.old) }
         requires early { IsEarly (timed_said_of line.now) }
-        ensures takes { TakesLine plan.now watching.length watching.until_settled line.now
+        ensures takes { TakesLine plan.now watching.now.length watching.now.until_settled line.now
             (stage_of T.window self.old) (stage_of T.window self.new) out.old out.new result }
         ensures stage { result ≡ Ok None →
-            IsStage plan.now watching.length (stage_of T.window self.new) }
+            IsStage plan.now watching.now.length (stage_of T.window self.new) }
         ensures sent { HasGoneOut out.old → HasGoneOut out.new }
     {
-        if self.film.take(alloc, plan, watching, line, out)? {
-            Ok(Some(Status::Settled))
-        } else {
-            Ok(None)
+        match self.film.take(alloc, plan, watching, line, out) {
+            Ok(true) => Ok(Some(Status::Settled)),
+            Ok(false) => Ok(None),
+            Err(error) => Err(error),
         }
     }
 
@@ -108,17 +109,17 @@ impl<T: WindowTable> Watch<T> {
         &mut self,
         alloc: Global,
         plan: &Plan,
-        watching: Watching,
+        watching: &Watching,
         line: &TimedLine<'_>,
         out: &mut Out<K>,
     ) -> Result<Option<Status>, AllocError>
         requires begun { self.old.begun ≡ false }
-        requires stage { IsStage plan.now watching.length (stage_of T.window self.old) }
+        requires stage { IsStage plan.now watching.now.length (stage_of T.window self.old) }
         requires early { IsEarly (timed_said_of line.now) }
-        ensures takes { TakesLine plan.now watching.length watching.until_settled line.now
+        ensures takes { TakesLine plan.now watching.now.length watching.now.until_settled line.now
             (stage_of T.window self.old) (stage_of T.window self.new) out.old out.new result }
         ensures stage { result ≡ Ok None →
-            IsStage plan.now watching.length (stage_of T.window self.new) }
+            IsStage plan.now watching.now.length (stage_of T.window self.new) }
         ensures sent { result ≡ Ok None → HasGoneOut out.old → HasGoneOut out.new }
     {
         match second_of(line) {
@@ -138,16 +139,16 @@ impl<T: WindowTable> Watch<T> {
         &mut self,
         alloc: Global,
         plan: &Plan,
-        watching: Watching,
+        watching: &Watching,
         line: &TimedLine<'_>,
         out: &mut Out<K>,
     ) -> Result<Option<Status>, AllocError>
-        requires stage { IsStage plan.now watching.length (stage_of T.window self.old) }
+        requires stage { IsStage plan.now watching.now.length (stage_of T.window self.old) }
         requires early { IsEarly (timed_said_of line.now) }
-        ensures takes { TakesLine plan.now watching.length watching.until_settled line.now
+        ensures takes { TakesLine plan.now watching.now.length watching.now.until_settled line.now
             (stage_of T.window self.old) (stage_of T.window self.new) out.old out.new result }
         ensures stage { result ≡ Ok None →
-            IsStage plan.now watching.length (stage_of T.window self.new) }
+            IsStage plan.now watching.now.length (stage_of T.window self.new) }
         ensures sent { result ≡ Ok None → HasGoneOut out.old → HasGoneOut out.new }
     {
         if self.begun {
@@ -182,16 +183,16 @@ impl<T: WindowTable> Watch<T> {
 fn watch_lines<R: Source, T: WindowTable, K: Sink>(
     alloc: Global,
     plan: &Plan,
-    watching: Watching,
+    watching: &Watching,
     reader: &mut TimedReader<R>,
     watch: &mut Watch<T>,
     out: &mut Out<K>,
 ) -> Result<Status, RunError>
     requires front { timed_lines reader.old ≡ 0 }
-    requires stage { IsStage plan.now watching.length (stage_of T.window watch.old) }
+    requires stage { IsStage plan.now watching.now.length (stage_of T.window watch.old) }
     requires nothing { IsNew plan.now (stage_of T.window watch.old) }
     ensures shows { OfWhole R.given R.at_end (timed_source reader.new) (λ coming.
-        AddsOne out.old out.new (ShowsText plan.now watching.length watching.until_settled
+        AddsOne out.old out.new (ShowsText plan.now watching.now.length watching.now.until_settled
         (timed_text coming reader.old) result)) }
     ensures went { Went R.given R.coming R.at_end (timed_source reader.old)
         (timed_source reader.new) }
@@ -201,7 +202,7 @@ fn watch_lines<R: Source, T: WindowTable, K: Sink>(
     ensures marks { result ≢ Err RunError.Read →
         R.broken (timed_source reader.new) ≡ R.broken (timed_source reader.old) }
     ensures write { result ≡ Err RunError.Write → out.new.failed ≡ true }
-    ensures ended { IfOk result (λ status. (watching.until_settled ≡ true → status ≢ Status.Settled)
+    ensures ended { IfOk result (λ status. (watching.now.until_settled ≡ true → status ≢ Status.Settled)
         → status ≢ Status.Refused → R.at_end (timed_source reader.new) ≡ true) }
 {
     'lines: loop {
@@ -223,35 +224,26 @@ fn watch_lines<R: Source, T: WindowTable, K: Sink>(
     }
 }
 
-/// Watches a log by its plan. The source and the sink come back.
-fn watch_log<R: Source, K: Sink, S: BuildHasher + Drop>(
+/// Watches a log by its plan and a table in which nothing was heard. The source and the sink come
+/// back.
+fn watch_by<R: Source, T: WindowTable + Drop, K: Sink>(
     alloc: Global,
     plan: &Plan,
+    watching: &Watching,
+    table: T,
     log: R,
     out: K,
-    watching: Watching,
-    hasher: S,
 ) -> (R, K, Result<Status, RunError>)
-    ensures prints { (text : List ℕ) → IsGiven R.given R.at_end log result.0 text →
-        PrintsAlong K.taken K.broken out result.1 result.2
-        (WatchedLog plan.now watching.length watching.until_settled text)
-        (WatchedLogFront plan.now watching.length watching.until_settled text) }
-    ensures draws { Draws R.given R.coming R.broken R.at_end log result.0 result.2 }
-    ensures read { (text : List ℕ) → IsGiven R.given R.at_end log result.0 text →
-        result.2 ≡ Err RunError.Read → IsUnreadTo (R.broken result.0) (Some text) }
-    ensures ended { IfOk result.2 (λ status. (watching.until_settled ≡ true →
-        status ≢ Status.Settled) → status ≢ Status.Refused → R.at_end result.0 ≡ true) }
-    ensures settled { (text : List ℕ) → IsGiven R.given R.at_end log result.0 text →
-        (said : List LineSaid) → TextSays text said → IfOk result.2 (λ status.
-        (status ≡ Status.Settled)
-        ↔ EndsRight plan.now watching.length watching.until_settled said) }
+    requires new { T.window table ≡ new_window plan.now }
+    requires fits { Fits plan.now (T.state table) }
+    ensures watches { Watches R.Source K.Sink watching.now.length watching.now.until_settled plan.now
+        log out result }
 {
     lasting_scenes();
-    // timed_texts();
-    let table = match GridWindow::with_hasher(alloc, plan, hasher) {
-        Ok(table) => table,
-        Err(_) => return (log, out, Err(RunError::Memory)),
-    };
+    last_seconds();
+    timed_records();
+    timed_texts();
+    plan.lawful();
     let mut reader = match TimedReader::new(alloc, log) {
         Ok(reader) => reader,
         Err((_, log)) => return (log, out, Err(RunError::Memory)),
@@ -261,6 +253,24 @@ fn watch_log<R: Source, K: Sink, S: BuildHasher + Drop>(
     let ended = watch_lines(alloc, plan, watching, &mut reader, &mut watch, &mut text);
     let (out, answer) = text.finish_with(ended);
     (reader.into_source(), out, answer)
+}
+
+/// Watches a log by its plan. The source and the sink come back.
+fn watch_log<R: Source, K: Sink, S: BuildHasher + Drop>(
+    alloc: Global,
+    plan: &Plan,
+    watching: &Watching,
+    log: R,
+    out: K,
+    hasher: S,
+) -> (R, K, Result<Status, RunError>)
+    ensures watches { Watches R.Source K.Sink watching.now.length watching.now.until_settled plan.now
+        log out result }
+{
+    match GridWindow::with_hasher(alloc, plan, hasher) {
+        Ok(table) => watch_by(alloc, plan, watching, table, log, out),
+        Err(_) => (log, out, Err(RunError::Memory)),
+    }
 }
 
 /// Prints the verdict on a network in each second of a log with times in which it changed, as soon
@@ -286,11 +296,17 @@ pub fn run_watch<R: Source, K: Sink, S: BuildHasher + Drop>(
         (n : Network) (said : List LineSaid) → IsPlanOfText plan.now n → TextSays text said →
         IfOk result.2 (λ status. status ≢ Status.Refused → (status ≡ Status.Settled)
         ↔ EndsRight n watching.length watching.until_settled said) }
+    // Of a log that lies within a window, and that `audit` does not refuse without its times, the
+    // status is that of the verdict of `audit`.
+    ensures film { (text plain : List ℕ) → IsGiven R.given R.at_end log result.0 text →
+        LiesWithin watching.length text plain → watching.until_settled ≡ false →
+        (n : Network) (s : State) → IsAccepted plan.now plain n s →
+        IfOk result.2 (IsVerdictStatus n s) }
 {
     one_plan();
     well_formed_texts();
     match Plan::read(alloc, plan) {
-        Ok(plan) => watch_log(alloc, &plan, log, out, watching, hasher),
+        Ok(plan) => watch_log(alloc, &plan, &watching, log, out, hasher),
         Err(error) => {
             let (out, answer) = refuse_plan(error, out);
             (log, out, answer)

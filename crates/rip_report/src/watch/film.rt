@@ -186,20 +186,20 @@ impl<T: WindowTable> Film<T> {
         &mut self,
         alloc: Global,
         plan: &Plan,
-        watching: Watching,
+        watching: &Watching,
         to: u64,
         out: &mut Out<K>,
     ) -> Result<bool, AllocError>
         requires fits { Fits plan.now (shown (view_of T.window self.old.scene).window) }
         requires second { self.old.second ≤ to }
         requires most { to ≤ MOST_SECONDS }
-        requires lasts { LastsFor watching.length (view_of T.window self.old.scene) }
+        requires lasts { LastsFor watching.now.length (view_of T.window self.old.scene) }
         ensures film { IfOk result (λ settled. AddsOne out.old out.new (QuietFilm plan.now
-            watching.until_settled self.old.last.items self.old.second
+            watching.now.until_settled self.old.last.items self.old.second
             (view_of T.window self.old.scene) (to - self.old.second) settled
             self.new.last.items)) }
         ensures begun { OnErr result (AddsOne out.old out.new (QuietBegun plan.now
-            watching.until_settled self.old.last.items self.old.second
+            watching.now.until_settled self.old.last.items self.old.second
             (view_of T.window self.old.scene) (to - self.old.second))) }
         ensures sent { HasGoneOut out.old → HasGoneOut out.new }
         ensures view { result ≡ Ok false → view_of T.window self.new.scene
@@ -223,30 +223,30 @@ impl<T: WindowTable> Film<T> {
         &mut self,
         alloc: Global,
         plan: &Plan,
-        watching: Watching,
+        watching: &Watching,
         line: &TimedLine<'_>,
         out: &mut Out<K>,
     ) -> Result<bool, AllocError>
         requires fits { Fits plan.now (shown (view_of T.window self.old.scene).window) }
         requires second { self.old.second ≤ MOST_SECONDS }
         requires early { IsEarly (timed_said_of line.now) }
-        requires lasts { LastsFor watching.length (view_of T.window self.old.scene) }
+        requires lasts { LastsFor watching.now.length (view_of T.window self.old.scene) }
         ensures film { IfOk result (λ settled. AddsOne out.old out.new (QuietFilm plan.now
-            watching.until_settled self.old.last.items self.old.second
+            watching.now.until_settled self.old.last.items self.old.second
             (view_of T.window self.old.scene) (seconds_before self.old.second line.now) settled
             self.new.last.items)) }
         ensures begun { OnErr result (AddsOne out.old out.new (LineBegun plan.now
-            watching.until_settled self.old.last.items self.old.second
+            watching.now.until_settled self.old.last.items self.old.second
             (view_of T.window self.old.scene) (seconds_before self.old.second line.now))) }
         ensures sent { HasGoneOut out.old → HasGoneOut out.new }
         ensures view { result ≡ Ok false → view_of T.window self.new.scene
-            ≡ after_line plan.now watching.length line.now (after_quiet plan.now
+            ≡ after_line plan.now watching.now.length line.now (after_quiet plan.now
             (seconds_before self.old.second line.now) (view_of T.window self.old.scene)) }
         ensures second { result ≡ Ok false → self.new.second
             ≡ self.old.second + seconds_before self.old.second line.now }
         ensures most { result ≡ Ok false → self.new.second ≤ MOST_SECONDS }
         ensures lasts { result ≡ Ok false →
-            LastsFor watching.length (view_of T.window self.new.scene) }
+            LastsFor watching.now.length (view_of T.window self.new.scene) }
         ensures fits { Fits plan.now (shown (view_of T.window self.new.scene).window) }
     {
         lasting_scenes();

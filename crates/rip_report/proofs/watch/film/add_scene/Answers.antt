@@ -26,4 +26,4 @@ pub returns-in-None-clause-settles : goal.returns-in-None-clause-settles
 returns-in-None-clause-settles g c =
     let v = view_of g.T.WindowTable.window c.args.scene.now in
     let same = g.met.T.WindowTable.shows c.table.result.now ∙ ap shown c.table.ensures in
-    settles_judged c.args.plan.now v _ same (no_episode v (sym c.refusal.ensures ∙ c.in-None.is)) c.add_audit.ensures.judged
+    settles_judged c.add_audit.result c.args.plan.now v _ same (no_episode v (sym c.refusal.ensures ∙ c.in-None.is)) c.add_audit.ensures.judged
