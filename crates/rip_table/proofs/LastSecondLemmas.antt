@@ -13,7 +13,7 @@ use Rattle.rip_log.specs.Lines.{Capture}
 use Rattle.rip_log.specs.Logs.{Numbered}
 use Rattle.rip_log.specs.TimedText.{AreCaptured, LineSaid, TimedSaid}
 use Rattle.rip_table.specs.State.{State, is_among, new_state, with_prefix}
-use Rattle.rip_table.specs.Joined.{and_then, as_cause, interface_of, is_foreign, is_past, joined_at, joined_capture, joined_entries, joined_from, joined_message, joined_records, message_of_capture, with_heard, with_metric}
+use Rattle.rip_table.specs.Joined.{and_then, interface_of, is_foreign, is_past, joined_at, joined_capture, joined_entries, joined_from, joined_message, joined_records, message_of_capture, with_heard, with_metric}
 use Rattle.rip_table.specs.Rows.{shown_after}
 use Rattle.rip_table.specs.Scenes.{View, after_message, after_said, closed_view, new_view, passed_episode, passed_view, with_window}
 use Rattle.rip_table.specs.Seconds.{AreWithin, EndsShowing, after_quiet, from_first, later_second, log_seconds, own_second, quiet, seconds_of}
@@ -25,6 +25,7 @@ use Rattle.rip_table.proofs.AfterLemmas.{Listed, after_all, joined-after, joined
 use Rattle.rip_table.proofs.ForgetLemmas.{any_at, any_same, filter_append, is_left}
 use Rattle.rip_table.proofs.PrefixListLemmas.{is_among-append}
 use Rattle.rip_table.proofs.RememberLemmas.{metric_in}
+use Rattle.rip_table.proofs.SaidLemmas.{from_cause}
 use Rattle.rip_table.proofs.TruthLemmas.{and-false, or-false, or-true, then-split}
 use Rattle.rip_table.proofs.WindowLemmas.{none_made, nothing_shown, same_number, words_made}
 
@@ -203,7 +204,7 @@ record Keeps (n : Network) (k : ℕ) (v : View) : Type 0 where
   pub marks : (i : ℕ) → (v.window.heard i ≡ 0) ⊎ (k ≤ v.window.heard i)
   pub whole : IsWhole n (shown v.window)
 
-some_metric : (word : Option Word) → is_some (metric_in word) ≡ is_some word
+pub some_metric : (word : Option Word) → is_some (metric_in word) ≡ is_some word
 some_metric None = refl
 some_metric (Some x) = refl
 
@@ -280,10 +281,6 @@ told_keeps n k seconds i v t u le h same whole = record {
     mark j true = inr le
     mark j false = h.marks j
 
-joined_of : (r : Result State TableError) (u : State) → as_cause r ≡ Ok u → r ≡ Ok u
-joined_of (Ok s) u h = let same : s ≡ u = cc h in ap (λ (x : State). Ok x) same
-joined_of (Err e) u h = absurd (cc h)
-
 -- what is joined into the table is taken
 message_keeps : (n : Network) (k seconds line : ℕ) (i : Option ℕ) (m : Message) (v : View) (u : State) → 1 ≤ k → k ≤ seconds → ((j : ℕ) → i ≡ Some j → j < length n.interfaces) → Keeps n k v
     → joined_from n (shown v.window) m i ≡ Ok u → Keeps n k (after_message n seconds line i m v) × (shown (after_message n seconds line i m v).window ≡ u)
@@ -291,7 +288,7 @@ message_keeps n k seconds line None request v u some le below h joined = (h, cc 
 message_keeps n k seconds line None (response es) v u some le below h joined = absurd (cc joined)
 message_keeps n k seconds line (Some i) request v u some le below h joined = (record { calm = h.calm; words = h.words; marks = h.marks; whole = h.whole }, cc joined)
 message_keeps n k seconds line (Some i) (response es) v u some le below h joined =
-    let is = joined_of (joined_message n i (shown v.window) (response es)) u joined in
+    let is = from_cause (joined_message n i (shown v.window) (response es)) u joined in
     let lt : i < v.window.interfaces = omega (arith, below i refl, h.whole.wide) in
     let told = told_join n seconds i v.window es u (omega (arith, some, le)) (h.whole.listed i) is in
     let whole = whole_joined n i es (shown v.window) u lt h.whole is in

@@ -36,3 +36,4 @@ pub mod StrangerLemmas
 pub mod TalliedLemmas
 pub mod FirstLemmas
 pub mod LastSecondLemmas
+pub mod SeenLemmas

@@ -21,6 +21,7 @@ ghost use Rattle.rip_log.specs.TimedText.{AreCaptured, LineSaid, TimedSaid};
 ghost use Rattle.rip_table.specs.Remembered.{Remembers, Taken};
 ghost use Rattle.rip_table.specs.Scenes.{LastsFor, View, after_said, closed_view, new_view, passed_view};
 ghost use Rattle.rip_table.specs.Seconds.{AreWithin, EndsShowing, log_seconds};
+ghost use Rattle.rip_table.specs.Seen.{IsSeen};
 ghost use Rattle.rip_table.specs.declared.error.CollectCause.{CollectCause};
 ghost use Rattle.rip_table.specs.declared.error.CollectCause.TheVariants.{Table};
 ghost use Rattle.rip_table.specs.declared.error.TableError.{TableError};
@@ -199,6 +200,18 @@ pub fn last_seconds()
 {
     new_states();
     joined_logs();
+    rip_plan::laws::senders();
+}
+
+/// What is to be seen at the end of each second of a log is what the words say: what the responses
+/// that were taken up to it told last, and the episode of the lines that were refused up to it.
+pub fn seen_seconds()
+    ensures { (n : Network) (window k second : ℕ) (said : List LineSaid) (v : View) →
+        IsLawful n → 1 ≤ window → slice_get (log_seconds n window said) k ≡ Some (second, v) →
+        IsSeen n window said second v }
+{
+    windows();
+    laws::response_fields();
     rip_plan::laws::senders();
 }
 
