@@ -1,26 +1,29 @@
 -- What is to be seen at the end of each second of a log is what the words say.
-use Rattle.std.proofs.Common.{◌⊎◌, inl, inr, ◌≡◌, ℕ, zero, suc, ◌+◌, ◌-◌, ◌==◌, ◌<◌, ◌≤◌, nat_lt, Bool, true, false, cond, ◌||◌, List, [], ◌∷◌, ◌++◌, length, filter, Option, Some, None, Result, Ok, Err, refl, sym, ap, subst, ◌∙◌, arith, append_assoc, add-zero}
+use Rattle.std.proofs.Common.{◌⊎◌, inl, inr, ◌≡◌, ℕ, zero, suc, ◌+◌, ◌-◌, ◌==◌, ◌<◌, ◌≤◌, nat_lt, Bool, true, false, cond, ◌||◌, List, [], ◌∷◌, ◌++◌, length, filter, Option, Some, None, Result, Ok, Err, refl, sym, ap, subst, ◌∙◌, arith, append-nil, append_assoc, add-zero}
 use Rattle.std.specs.Prelude.{◌↔◌, is_some}
 use Rattle.std.specs.List.{slice_get}
-use Rattle.std.proofs.lemmas.Bool.{eqb-true, ltb-true, or_cases}
+use Rattle.std.proofs.lemmas.Bool.{cases_lt, eqb-true, ltb-true, or_cases}
 use Rattle.std.proofs.lemmas.Bool.Decides.{nat_tests}
+use Rattle.std.proofs.lemmas.Option.{slice_get_within}
 use Rattle.rip_wire.specs.Prefix.{Block}
 use Rattle.rip_wire.specs.Datagram.{message_or_request}
 use Rattle.rip_wire.specs.Message.{Message, message_in, request, response}
 use Rattle.rip_wire.specs.declared.entry.Entry.{Entry}
 use Rattle.rip_wire.specs.declared.error.WireError.{WireError}
 use Rattle.rip_plan.proofs.ItemLemmas.{get_last}
+use Rattle.rip_plan.proofs.NumberingLemmas.{same_is, same_self}
+use Rattle.rip_plan.specs.Passes.{same_prefix}
 use Rattle.rip_plan.specs.Network.{Network}
 use Rattle.rip_plan.specs.Relations.{IsLawful}
 use Rattle.rip_log.specs.Lines.{Capture}
 use Rattle.rip_log.specs.TimedText.{LineSaid, TimedSaid, captured, bad, untimed}
 use Rattle.rip_table.specs.State.{Fits, IsState, State, is_among}
 use Rattle.rip_table.specs.Joined.{interface_of, joined_message, with_heard}
-use Rattle.rip_table.specs.LogJoin.{AreJoined, HasBadEntry, HasEntry, IsListed, IsResponse}
+use Rattle.rip_table.specs.LogJoin.{AreJoined, ComesBefore, HasBadEntry, HasEntry, IsListed, IsResponse}
 use Rattle.rip_table.specs.Remembered.{IsShownBy, IsToldBy, Remembers, ShowsIn, Taken}
 use Rattle.rip_table.specs.Scenes.{View, after_message, after_said, closed_view, first_of, new_view, passed_episode, passed_view, with_refusal, with_window}
 use Rattle.rip_table.specs.Seconds.{after_quiet, from_first, later_second, log_seconds, own_second, quiet, seconds_of}
-use Rattle.rip_table.specs.Seen.{AreInRow, AreUpTo, Become, BeginsIn, IsBefore, IsEpisode, IsEpisodeFrom, IsNoResponse, IsPlanned, IsRefusedAs, IsSeen, IsToldSince, RefusedLine, no_line, is_taken, is_refused, is_neither}
+use Rattle.rip_table.specs.Seen.{AreAsTheyCame, AreInRow, AreUpTo, Become, BeginsIn, CameWith, IsBefore, IsEpisode, IsEpisodeFrom, IsNoResponse, IsPlanned, IsRefusedAs, IsSeen, IsToldSince, RefusedLine, no_line, is_taken, is_refused, is_neither, IsToldWithin}
 use Rattle.rip_table.specs.Window.{Window, Word, any_below, forgotten, passed, passed_word, shown, told_message, window_after, with_words, without_shown, word_or}
 use Rattle.rip_table.specs.WindowFacts.{IsState-without_shown}
 use Rattle.rip_table.specs.declared.error.TableError.{TableError}
@@ -29,15 +32,19 @@ use Rattle.rip_table.specs.declared.scene.LineCause.{LineCause}
 use Rattle.rip_table.specs.declared.scene.LineCause.TheVariants.{Log, Table, UnknownSender}
 use Rattle.rip_table.specs.declared.scene.LineRefusal.{LineRefusal}
 use Rattle.rip_table.proofs.CheckLemmas.{heard_valid}
-use Rattle.rip_table.proofs.ForgetLemmas.{any_at, filter_some, forgotten-fits, forgotten-valid, is_left}
-use Rattle.rip_table.proofs.MakesLemmas.{either_list}
+use Rattle.rip_table.proofs.ForgetLemmas.{any_at, filter_append, filter_some, forgotten-fits, forgotten-valid, is_left}
+use Rattle.rip_table.proofs.MakesLemmas.{either_list, front_at}
 use Rattle.rip_table.proofs.MetricLemmas.{LowerLaws, response_metrics}
+use Rattle.rip_table.proofs.NumberLemmas.{true-false}
 use Rattle.rip_table.proofs.PrefixListLemmas.{is_among-item}
 use Rattle.rip_table.proofs.RefusedLemmas.{entries_joined, response_refused}
 use Rattle.rip_table.proofs.RememberLemmas.{first_item, last_item, made_of, metric_in, remembers-forgotten, remembers-nothing, remembers-passed, told_by}
 use Rattle.rip_table.proofs.SaidLemmas.{interface_below, item-is_among}
 use Rattle.rip_table.proofs.TruthLemmas.{or-true}
 use Rattle.rip_table.proofs.WindowLemmas.{Fits-told, new-fits, new-valid, passed-valid, same_fits, same_number, told-valid}
+use Rattle.rip_table.proofs.ComingLemmas.{FirstEntry, HaveCome, came_more, came_now, came_passed, first_entry}
+use Rattle.rip_table.proofs.EpisodeLemmas.{Lasts, lasts_is, lasts_passed, lasts_refused}
+use Rattle.rip_table.proofs.SecondLemmas.{later_least, later_most, later_than}
 
 -- ---- lists and tests
 
@@ -60,92 +67,29 @@ any_found (suc n) f h = by (f n) refl h (any_found n f)
     by true e h rest = (n, e)
     by false e h rest = rest h
 
+-- so two items that are left, in their order
+filter_items : (test : Block → Bool) (ps : List Block) (a b : ℕ) (p q : Block) → a < b → slice_get (filter test ps) a ≡ Some p → slice_get (filter test ps) b ≡ Some q
+    → (c d : ℕ) × (c < d) × (slice_get ps c ≡ Some p) × (slice_get ps d ≡ Some q)
+filter_items test [] a b p q lt first then = absurd (cc first)
+filter_items test (r ∷ ps) a b p q lt first then = by (test r) a b lt first then (λ c d. filter_items test ps c d p q) (λ d. filter_item test ps d q)
+  where
+    by : (x : Bool) (a b : ℕ) → a < b → slice_get (cond x (r ∷ filter test ps) (filter test ps)) a ≡ Some p → slice_get (cond x (r ∷ filter test ps) (filter test ps)) b ≡ Some q
+        → ((c d : ℕ) → c < d → slice_get (filter test ps) c ≡ Some p → slice_get (filter test ps) d ≡ Some q → (e f : ℕ) × (e < f) × (slice_get ps e ≡ Some p) × (slice_get ps f ≡ Some q))
+        → ((d : ℕ) → slice_get (filter test ps) d ≡ Some q → (test q ≡ true) × ((j : ℕ) × (slice_get ps j ≡ Some q)))
+        → (c d : ℕ) × (c < d) × (slice_get (r ∷ ps) c ≡ Some p) × (slice_get (r ∷ ps) d ≡ Some q)
+    by true a zero lt first then both one = absurd (omega (arith, lt))
+    by true zero (suc b) lt first then both one = let there = one b then in (zero, suc there.1.0, omega arith, first, there.1.1)
+    by true (suc a) (suc b) lt first then both one = let there = both a b (omega (arith, lt)) first then in (suc there.0, suc there.1, omega (arith, there.2), there.3, there.4)
+    by false a b lt first then both one = let there = both a b lt first then in (suc there.0, suc there.1, omega (arith, there.2), there.3, there.4)
+
+-- an item of the second of two lists
+behind_item : {A : Type 0} (xs ys : List A) (k : ℕ) (y : A) → slice_get ys k ≡ Some y → slice_get (xs ++ ys) (length xs + k) ≡ Some y
+behind_item [] ys k y at = let same : k ≡ 0 + k = omega arith in ap (slice_get ys) (sym same) ∙ at
+behind_item (x ∷ xs) ys k y at = let same : suc (length xs + k) ≡ suc (length xs) + k = omega arith in sym (ap (slice_get (x ∷ xs ++ ys)) same) ∙ behind_item xs ys k y at
+
 middle_item : {A : Type 0} (before after : List A) (x : A) → slice_get (before ++ x ∷ after) (length before) ≡ Some x
 middle_item [] after x = refl
 middle_item (b ∷ before) after x = middle_item before after x
-
--- ---- episodes
-
-row_less : (window second more : ℕ) (r : RefusedLine) (rest : List RefusedLine) → second ≤ more → AreInRow window more r rest → AreInRow window second r rest
-row_less window second more r [] le h = omega (arith, le, h)
-row_less window second more r (next ∷ rest) le h = (h.0, row_less window second more next rest le h.1)
-
-row_more : (window second more : ℕ) (first : RefusedLine) (rest : List RefusedLine) (r : RefusedLine) → r.second ≤ second → more < r.second + window → AreInRow window second first rest
-    → AreInRow window more first (rest ++ r ∷ [])
-row_more window second more first [] r le lt h = (omega (arith, le, h), lt)
-row_more window second more first (next ∷ rest) r le lt h = (h.0, row_more window second more next rest r le lt h.1)
-
-episode_less : (window second more : ℕ) (refused : List RefusedLine) (first : LineRefusal) → second ≤ more → IsEpisodeFrom window more refused first → IsEpisodeFrom window second refused first
-episode_less window second more refused first le h = record {
-  before = h.before;
-  begins = h.begins;
-  rest = h.rest;
-  split = h.split;
-  apart = h.apart;
-  row = row_less window second more h.begins h.rest le h.row;
-  named = h.named;
-}
-
--- each refused line is over in this second
-abbrev AreOver : ℕ → ℕ → List RefusedLine → Type 0
-AreOver window second refused = (k : ℕ) (r : RefusedLine) → slice_get refused k ≡ Some r → r.second + window ≤ second
-
--- the episode, and for how long it lasts
-abbrev Lasts : ℕ → ℕ → List RefusedLine → Option Episode → Type 0
-Lasts window second refused None = AreOver window second refused
-Lasts window second refused (Some e) = (1 ≤ e.left) × AreOver window (second + e.left) refused × IsEpisodeFrom window (second + e.left - 1) refused e.first
-
-lasts_is : (window second : ℕ) (refused : List RefusedLine) (o : Option Episode) → Lasts window second refused o → IsEpisode window second refused o
-lasts_is window second refused None h = h
-lasts_is window second refused (Some e) h = episode_less window second (second + e.left - 1) refused e.first (omega (arith, h.0)) h.2
-
-lasts_passed : (window second : ℕ) (refused : List RefusedLine) (o : Option Episode) → Lasts window second refused o → Lasts window (second + 1) refused (passed_episode o)
-lasts_passed window second refused None h = λ k r at. omega (arith, h k r at)
-lasts_passed window second refused (Some e) h = by (nat_lt 1 e.left) refl
-  where
-    by : (b : Bool) → nat_lt 1 e.left ≡ b → Lasts window (second + 1) refused (cond b (Some (record { first = e.first; left = e.left - 1 })) None)
-    by true t =
-        let more : 1 < e.left = ltb-true 1 e.left t in (
-          omega (arith, more),
-          λ k r at. omega (arith, more, h.1 k r at),
-          episode_less window (second + 1 + (e.left - 1) - 1) (second + e.left - 1) refused e.first (omega (arith, more)) h.2,
-        )
-    by false t =
-        let less : e.left ≤ 1 = grind (arith, nat_tests, t) in
-        λ k r at. omega (arith, less, h.1 k r at)
-
--- one more line is refused
-lasts_refused : (window second : ℕ) (refused : List RefusedLine) (o : Option Episode) (r : RefusedLine) → 1 ≤ window → r.second ≡ second
-    → ((k : ℕ) (q : RefusedLine) → slice_get refused k ≡ Some q → q.second ≤ second) → Lasts window second refused o
-    → Lasts window second (refused ++ r ∷ []) (Some (record { first = first_of r.refusal o; left = window }))
-lasts_refused window second refused o r some now past h = (
-  some,
-  λ k q at. elim (last_item refused r q k at) [
-    | inl old ↦ omega (arith, past k q old)
-    | inr one ↦ omega (arith, now, ap (λ (x : RefusedLine). x.second) one)
-  ],
-  by o h,
-)
-  where
-    by : (o : Option Episode) → Lasts window second refused o → IsEpisodeFrom window (second + window - 1) (refused ++ r ∷ []) (first_of r.refusal o)
-    by None over = record {
-      before = refused;
-      begins = r;
-      rest = [];
-      split = refl;
-      apart = λ k q at. omega (arith, now, over k q at);
-      row = omega (arith, now, some);
-      named = refl;
-    }
-    by (Some e) on = record {
-      before = on.2.before;
-      begins = on.2.begins;
-      rest = on.2.rest ++ r ∷ [];
-      split = ap (λ (l : List RefusedLine). l ++ r ∷ []) on.2.split ∙ append_assoc on.2.before (on.2.begins ∷ on.2.rest) (r ∷ []);
-      apart = on.2.apart;
-      row = row_more window (second + e.left - 1) (second + window - 1) on.2.begins on.2.rest r (omega (arith, now, on.0)) (omega (arith, now, some)) on.2.row;
-      named = on.2.named;
-    }
 
 -- ---- what was told and is not over stands in the table
 
@@ -182,6 +126,10 @@ module _ (below : LowerLaws) (told : ToldLaw) (n : Network) (lawful : IsLawful n
     pub valid : IsState (shown v.window)
     pub fits : Fits n (shown v.window)
     pub listed : (p : Block) → IsListed (shown v.window) p ↔ (IsPlanned n p ⊎ IsToldSince window second taken p)
+    pub others : List Block
+    pub prefixes : v.window.prefixes ≡ n.prefixes ++ others
+    pub come : HaveCome window second taken others
+    pub order : AreAsTheyCame window second taken others
     pub alive : (k x : ℕ) (p : Block) (t : Taken) → slice_get taken k ≡ Some t → IsToldBy t p x → IsAlive window second (v.window.words t.interface p) t.second
     pub planned : (k : ℕ) (t : Taken) → slice_get taken k ≡ Some t → t.interface < length n.interfaces
     pub past : (k : ℕ) (r : RefusedLine) → slice_get refused k ≡ Some r → r.second ≤ second
@@ -198,6 +146,10 @@ module _ (below : LowerLaws) (told : ToldLaw) (n : Network) (lawful : IsLawful n
     valid = new-valid n lawful;
     fits = new-fits n;
     listed = λ p. (λ h. inl h, λ h. elim h [ inl planned ↦ planned | inr since ↦ absurd (cc since.3) ]);
+    others = [];
+    prefixes = sym (append-nil n.prefixes);
+    come = λ a p at. absurd (cc at);
+    order = λ a b p q lt at. absurd (cc at);
     alive = λ k x p t at says. absurd (cc at);
     planned = λ k t at. absurd (cc at);
     past = λ k r at. absurd (cc at);
@@ -218,12 +170,16 @@ module _ (below : LowerLaws) (told : ToldLaw) (n : Network) (lawful : IsLawful n
   some_is (Some x) m h = refl
 
   -- what is shown was told in one of the last so many seconds
-  shown_since : (lines : List LineSaid) (last second : ℕ) (v : View) (g : Going lines last second v) (i m : ℕ) (p : Block) → IsShownBy window second g.taken i p m
-      → (i < v.window.interfaces) × IsToldSince window (second + 1) g.taken p
-  shown_since lines last second v g i m p h =
+  shown_within : (lines : List LineSaid) (last second : ℕ) (v : View) (g : Going lines last second v) (i m : ℕ) (p : Block) → IsShownBy window second g.taken i p m
+      → (i < v.window.interfaces) × IsToldWithin window second g.taken p
+  shown_within lines last second v g i m p h =
       let at = ap (λ (l : List Taken). slice_get l (length h.before)) h.split ∙ middle_item h.before h.after h.last in
       let lt = g.planned (length h.before) h.last at in
-      (omega (arith, lt, h.of, g.fits.interfaces), (length h.before, m, h.last, at, h.told, omega (arith, h.within)))
+      let past = g.remembers.past (length h.before) h.last at in
+      (omega (arith, lt, h.of, g.fits.interfaces), (length h.before, m, h.last, at, h.told, past, h.within))
+
+  within_since : (second : ℕ) (taken : List Taken) (p : Block) → IsToldWithin window second taken p → IsToldSince window (second + 1) taken p
+  within_since second taken p h = (h.0, h.1, h.2, h.3, h.4, omega (arith, h.6))
 
   since_less : (second : ℕ) (taken : List Taken) (p : Block) → IsToldSince window (second + 1) taken p → IsToldSince window second taken p
   since_less second taken p h = (h.0, h.1, h.2, h.3, h.4, omega (arith, h.5))
@@ -256,10 +212,51 @@ module _ (below : LowerLaws) (told : ToldLaw) (n : Network) (lawful : IsLawful n
       behind (inl (k, at)) =
           kept (ap (λ (b : Bool). b || any_below v.window.interfaces (λ i. is_some (v.window.words i p))) (is_among-item n.prefixes k p at)) ((g.listed p).1 (inl (k, at)))
       behind (inr (i, m, h)) =
-          let since = shown_since lines last second v g i m p h in
+          let within = shown_within lines last second v g i m p h in
           let there = some_is (v.window.words i p) m (((shows_now lines last second v g).shows i p m).1 h) in
-          kept (ap (λ (b : Bool). is_among p n.prefixes || b) (any_at v.window.interfaces (λ j. is_some (v.window.words j p)) i since.0 there) ∙ or-true (is_among p n.prefixes))
-          ((g.listed p).1 (inr (since_less second g.taken p since.1)))
+          kept (ap (λ (b : Bool). is_among p n.prefixes || b) (any_at v.window.interfaces (λ j. is_some (v.window.words j p)) i within.0 there) ∙ or-true (is_among p n.prefixes))
+          ((g.listed p).1 (inr (since_less second g.taken p (within_since second g.taken p within.1))))
+
+  -- which prefixes are left, and how they stand
+  module _ (lines : List LineSaid) (last second : ℕ) (v : View) (g : Going lines last second v) where
+    left_prefixes : (forgotten n v.window).prefixes ≡ n.prefixes ++ filter (is_left n v.window) g.others
+    left_prefixes =
+        ap (filter (is_left n v.window)) g.prefixes
+        ∙ filter_append (is_left n v.window) n.prefixes g.others (λ p h. ap (λ (b : Bool). b || any_below v.window.interfaces (λ i. is_some (v.window.words i p))) h)
+
+    not_planned : (a : ℕ) (p : Block) → slice_get g.others a ≡ Some p → IsPlanned n p → ⊥
+    not_planned a p at (k, there) =
+        let first = ap (λ (ps : List Block). slice_get ps k) g.prefixes ∙ front_at n.prefixes g.others k p there in
+        let then = ap (λ (ps : List Block). slice_get ps (length n.prefixes + a)) g.prefixes ∙ behind_item n.prefixes g.others a p at in
+        let same : k ≡ length n.prefixes + a = g.valid.differ k (length n.prefixes + a) p first then in
+        omega (arith, same, slice_get_within n.prefixes k p there)
+
+    left_within : (a : ℕ) (p : Block) → slice_get (filter (is_left n v.window) g.others) a ≡ Some p → IsToldWithin window second g.taken p
+    left_within a p at =
+        let item = filter_item (is_left n v.window) g.others a p at in
+        elim (or_cases (is_among p n.prefixes) (any_below v.window.interfaces (λ i. is_some (v.window.words i p))) item.0) [
+          | inl among ↦ absurd (not_planned item.1.0 p item.1.1 (item-is_among p n.prefixes among))
+          | inr any ↦
+              let found = any_found v.window.interfaces (λ i. is_some (v.window.words i p)) any in
+              let metric = metric_some (v.window.words found.0 p) found.1 in
+              (shown_within lines last second v g found.0 metric.0 p (((shows_now lines last second v g).shows found.0 p metric.0).0 metric.1)).1
+        ]
+
+    left_come : HaveCome window (second + 1) g.taken (filter (is_left n v.window) g.others)
+    left_come a p at =
+        let item = filter_item (is_left n v.window) g.others a p at in
+        let came = g.come item.1.0 p item.1.1 in
+        (came.0, came.1, came_passed window second g.taken p came.0 came.1 (left_within a p at) came.2)
+
+    left_order : AreAsTheyCame window second g.taken (filter (is_left n v.window) g.others)
+    left_order a b p q lt first then =
+        let items = filter_items (is_left n v.window) g.others a b p q lt first then in
+        g.order items.0 items.1 p q items.2 items.3 items.4
+
+    order_passed : AreAsTheyCame window (second + 1) g.taken (filter (is_left n v.window) g.others)
+    order_passed a b p q lt first then =
+        let (k, j, l, m, one, other, before) = left_order a b p q lt first then in
+        (k, j, l, m, came_passed window second g.taken p k j (left_within a p first) one, came_passed window second g.taken q l m (left_within b q then) other, before)
 
   passes : (lines : List LineSaid) (last second : ℕ) (v : View) → Going lines last second v → Going lines last (second + 1) (passed_view (closed_view n v))
   passes lines last second v g = record {
@@ -274,13 +271,17 @@ module _ (below : LowerLaws) (told : ToldLaw) (n : Network) (lawful : IsLawful n
     listed = λ p. (
       λ h. elim ((closed_listed lines last second v g p).0 h) [
         | inl planned ↦ inl planned
-        | inr by ↦ inr (shown_since lines last second v g by.0 by.1 p by.2).1
+        | inr by ↦ inr (within_since second g.taken p (shown_within lines last second v g by.0 by.1 p by.2).1)
       ],
       λ h. (closed_listed lines last second v g p).1 (elim h [
         | inl planned ↦ inl planned
         | inr since ↦ inr (since_shown lines last second v g p since)
       ]),
     );
+    others = filter (is_left n v.window) g.others;
+    prefixes = left_prefixes lines last second v g;
+    come = left_come lines last second v g;
+    order = order_passed lines last second v g;
     alive = λ k x p t at says. alive_passed window second (v.window.words t.interface p) t.second (g.alive k x p t at says);
     planned = g.planned;
     past = λ k r at. omega (arith, g.past k r at);
@@ -299,6 +300,9 @@ module _ (below : LowerLaws) (told : ToldLaw) (n : Network) (lawful : IsLawful n
     become = g.become;
     shows = let now = shows_now lines last second v g in record { shows = now.shows; heard = now.heard };
     listed = closed_listed lines last second v g;
+    others = filter (is_left n v.window) g.others;
+    prefixes = left_prefixes lines last second v g;
+    order = left_order lines last second v g;
     episode = lasts_is window second g.refused v.episode g.lasts;
   }
 
@@ -319,13 +323,8 @@ module _ (below : LowerLaws) (told : ToldLaw) (n : Network) (lawful : IsLawful n
     | inl old ↦ early k own q old is
     | inr one ↦
         let here : own_second l.said ≡ Some own = sym (ap (λ (x : LineSaid). own_second x.said) one) ∙ is in
-        let later : second ≡ later_second last (Some own) = now ∙ ap (later_second last) here in
-        by (nat_lt last own) refl later
+        omega (arith, now ∙ ap (later_second last) here, later_most last own)
   ]
-    where
-      by : (b : Bool) → nat_lt last own ≡ b → second ≡ cond b own last → own ≤ second
-      by true t later = omega (arith, later)
-      by false t later = let less : own ≤ last = grind (arith, nat_tests, t) in omega (arith, later, less)
 
   refuses : (lines : List LineSaid) (last second : ℕ) (v : View) (l : LineSaid) (cause : LineCause) (g : Going lines last second v) → second ≡ later_second last (own_second l.said)
       → IsRefusedAs n window second g.taken l.said cause → Going (lines ++ l ∷ []) second second (with_refusal window l.line cause v)
@@ -340,6 +339,10 @@ module _ (below : LowerLaws) (told : ToldLaw) (n : Network) (lawful : IsLawful n
         valid = g.valid;
         fits = g.fits;
         listed = g.listed;
+        others = g.others;
+        prefixes = g.prefixes;
+        come = g.come;
+        order = g.order;
         alive = g.alive;
         planned = g.planned;
         past = λ k q at. elim (last_item g.refused r q k at) [
@@ -361,6 +364,10 @@ module _ (below : LowerLaws) (told : ToldLaw) (n : Network) (lawful : IsLawful n
     valid = g.valid;
     fits = g.fits;
     listed = g.listed;
+    others = g.others;
+    prefixes = g.prefixes;
+    come = g.come;
+    order = g.order;
     alive = g.alive;
     planned = g.planned;
     past = g.past;
@@ -399,6 +406,10 @@ module _ (below : LowerLaws) (told : ToldLaw) (n : Network) (lawful : IsLawful n
       valid = subst (λ (w : Window). IsState (shown w)) made.2 (told-valid n window i v.window entries lt g.valid (made.0, made.1, joined.state));
       fits = Fits-told n window i v.window new (response entries) (Ok tt) g.fits h;
       listed = λ p. (ahead p, behind p);
+      others = g.others ++ joined.taken.others;
+      prefixes = all_prefixes;
+      come = all_come;
+      order = all_order;
       alive = λ k x p q at says. elim (last_item g.taken t q k at) [
         | inl old ↦ subst (λ (w : Window). IsAlive window second (w.words q.interface p) q.second) made.2 (alive_old k x p q old says (q.interface == i) refl)
         | inr one ↦ subst (λ (w : Window). IsAlive window second (w.words q.interface p) q.second) made.2 (alive_new x p q says one)
@@ -447,6 +458,56 @@ module _ (below : LowerLaws) (told : ToldLaw) (n : Network) (lawful : IsLawful n
           | inl old ↦ inl ((g.listed p).1 (inr (k, x, q, old, says, le)))
           | inr one ↦ let has = subst (λ (y : Taken). IsToldBy y p x) one says in inr (has.0, x, has.1)
         ]))
+
+        all_prefixes : new.prefixes ≡ n.prefixes ++ (g.others ++ joined.taken.others)
+        all_prefixes = prefixes ∙ joined.taken.prefixes ∙ ap (λ (ps : List Block). ps ++ joined.taken.others) g.prefixes ∙ append_assoc n.prefixes g.others joined.taken.others
+
+        -- a prefix that is new came with the first entry that is of it
+        fresh : (a : ℕ) (p : Block) → slice_get joined.taken.others a ≡ Some p → (k : ℕ) × (f : FirstEntry entries p k) × CameWith window second (g.taken ++ t ∷ []) p (length g.taken) f.number
+        fresh a p at = elim ((joined.taken.listed p).0 (length v.window.prefixes + a, there)) [
+          | inl old ↦ absurd (not_old old)
+          | inr has ↦
+              let entry = first_entry entries p has.0 has.1 has.2 in
+              (has.0, entry, came_now window g.taken t p has.0 entry (λ since. not_old ((g.listed p).1 (inr since))))
+        ]
+          where
+            there : slice_get made.0.prefixes (length v.window.prefixes + a) ≡ Some p
+            there = ap (λ (ps : List Block). slice_get ps (length v.window.prefixes + a)) joined.taken.prefixes ∙ behind_item v.window.prefixes joined.taken.others a p at
+
+            not_old : IsListed (shown v.window) p → ⊥
+            not_old (k, here) =
+                let same : k ≡ length v.window.prefixes + a = joined.state.differ k (length v.window.prefixes + a) p
+                (ap (λ (ps : List Block). slice_get ps k) joined.taken.prefixes ∙ front_at v.window.prefixes joined.taken.others k p here) there in
+                omega (arith, same, slice_get_within v.window.prefixes k p here)
+
+        more : (p : Block) (k j : ℕ) → CameWith window second g.taken p k j → CameWith window second (g.taken ++ t ∷ []) p k j
+        more p k j = came_more window second g.taken t p k j
+
+        all_come : HaveCome window second (g.taken ++ t ∷ []) (g.others ++ joined.taken.others)
+        all_come a p at = elim (either_list g.others joined.taken.others a p at) [
+          | inl old ↦ let came = g.come a p old in (came.0, came.1, more p came.0 came.1 came.2)
+          | inr (j, _, new_at) ↦ let came = fresh j p new_at in (length g.taken, came.1.number, came.2)
+        ]
+
+        all_order : AreAsTheyCame window second (g.taken ++ t ∷ []) (g.others ++ joined.taken.others)
+        all_order a b p q less first_at then = elim (either_list g.others joined.taken.others a p first_at) [
+          | inl x ↦ elim (either_list g.others joined.taken.others b q then) [
+            | inl y ↦ let (k, j, l, m, one, other, before) = g.order a b p q less x y in (k, j, l, m, more p k j one, more q l m other, before)
+            | inr (d, _, y) ↦
+                let came = g.come a p x in
+                let one = came.2 in
+                let other = fresh d q y in
+                (came.0, came.1, length g.taken, other.1.number, more p came.0 came.1 one, other.2, inl (slice_get_within g.taken came.0 one.response one.at))
+          ]
+          | inr (c, is, x) ↦ elim (either_list g.others joined.taken.others b q then) [
+            | inl y ↦ absurd (omega (arith, less, is, slice_get_within g.others b q y))
+            | inr (d, also, y) ↦
+                let one = fresh c p x in
+                let other = fresh d q y in
+                let sooner = joined.taken.order c d p q (omega (arith, less, is, also)) x y other.1.number other.1.metric other.1.has in
+                (length g.taken, one.1.number, length g.taken, other.1.number, one.2, other.2, inr (refl, omega (arith, one.1.first sooner.0 sooner.1 sooner.2, sooner.3)))
+          ]
+        ]
 
         alive_old : (k x : ℕ) (p : Block) (q : Taken) → slice_get g.taken k ≡ Some q → IsToldBy q p x → (b : Bool) → (q.interface == i) ≡ b
             → IsAlive window second (cond b (word_or window (made.0.shows i p) (v.window.words i p)) (v.window.words q.interface p)) q.second
@@ -524,22 +585,6 @@ module _ (below : LowerLaws) (told : ToldLaw) (n : Network) (lawful : IsLawful n
         subst Sees here (seen said lines last second v begins (record { after = rest; split = split; early = g.early; late = λ l is. late l is second (omega arith) (omega arith) }) g)
     sees_quiet (suc count) lines rest last second v split late g (suc k) x at =
         sees_quiet count lines rest last (second + 1) (passed_view (closed_view n v)) split (λ l is s low high. late l is s (omega (arith, low)) (omega (arith, high))) (passes lines last second v g) k x at
-
-    later_than : (second s : ℕ) (own : Option ℕ) → second ≤ s → s < later_second second own → (x : ℕ) × (own ≡ Some x) × (s < x)
-    later_than second s None low high = absurd (omega (arith, low, high))
-    later_than second s (Some x) low high = by (nat_lt second x) high
-      where
-        by : (b : Bool) → s < cond b x second → (y : ℕ) × (Some x ≡ Some y) × (s < y)
-        by true h = (x, refl, h)
-        by false h = absurd (omega (arith, low, h))
-
-    later_least : (second : ℕ) (own : Option ℕ) → second ≤ later_second second own
-    later_least second None = omega arith
-    later_least second (Some x) = by (nat_lt second x) refl
-      where
-        by : (b : Bool) → nat_lt second x ≡ b → second ≤ cond b x second
-        by true t = omega (arith, ltb-true second x t)
-        by false t = omega arith
 
     sees : (rest lines : List LineSaid) (second : ℕ) (v : View) → said ≡ lines ++ rest → Going lines second second v
         → (k : ℕ) (x : ℕ × View) → slice_get (seconds_of n window second v rest) k ≡ Some x → Sees x

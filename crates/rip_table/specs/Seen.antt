@@ -8,7 +8,7 @@ use Rattle.rip_plan.specs.Network.{Network}
 use Rattle.rip_plan.specs.Relations.{IsAt, IsPrefix}
 use Rattle.rip_log.specs.TimedText.{LineSaid, TimedSaid, captured, bad, untimed}
 use Rattle.rip_table.specs.State.{AreDistinct, State}
-use Rattle.rip_table.specs.LogJoin.{HasBadEntry, IsListed, IsResponse, IsUnknown}
+use Rattle.rip_table.specs.LogJoin.{ComesBefore, HasBadEntry, HasEntry, IsListed, IsResponse, IsUnknown}
 use Rattle.rip_table.specs.Remembered.{IsShownBy, IsToldBy, ShowsIn, Taken}
 use Rattle.rip_table.specs.Scenes.{View}
 use Rattle.rip_table.specs.Seconds.{later_second, own_second}
@@ -122,12 +122,45 @@ IsEpisode window second refused None =
     (k : ℕ) (r : RefusedLine) → slice_get refused k ≡ Some r → r.second + window ≤ second
 IsEpisode window second refused (Some e) = IsEpisodeFrom window second refused e.first
 
+-- ---- the order of prefixes
+
+-- a response of this second or one of the last so many told of the prefix
+abbrev pub IsToldWithin : ℕ → ℕ → List Taken → Block → Type 0
+IsToldWithin window second taken p =
+    (k m : ℕ) × (t : Taken) × (slice_get taken k ≡ Some t) × IsToldBy t p m
+    × (t.second ≤ second) × (second < t.second + window)
+
+-- A prefix came with entry j of response k and is listed since: what told of it before that entry
+-- was over before that second began, and in each second since it was told of in the last so many.
+pub record CameWith (window second : ℕ) (taken : List Taken) (p : Block) (k j : ℕ) : Type 0 where
+  pub response : Taken
+  pub at : slice_get taken k ≡ Some response
+  pub metric : ℕ
+  pub tells : HasEntry response.entries j p metric
+  pub new : (l m x : ℕ) (t : Taken) → slice_get taken l ≡ Some t → HasEntry t.entries m p x
+      → ComesBefore l m k j → t.second + window < response.second
+  pub kept : (s : ℕ) → response.second ≤ s → s < second → IsToldWithin window s taken p
+
+-- of two prefixes that which came first is listed first
+abbrev pub AreAsTheyCame : ℕ → ℕ → List Taken → List Block → Type 0
+AreAsTheyCame window second taken prefixes =
+    (a b : ℕ) (p q : Block) → a < b → slice_get prefixes a ≡ Some p → slice_get prefixes b ≡ Some q
+    → (k j l m : ℕ) × CameWith window second taken p k j × CameWith window second taken q l m
+    × ComesBefore k j l m
+
 -- ---- a second
 
 -- the first line has this time's second
 abbrev pub BeginsIn : List LineSaid → ℕ → Type 0
 BeginsIn said first =
     (l : LineSaid) × (slice_get said 0 ≡ Some l) × (own_second l.said ≡ Some first)
+
+-- a line is of this second, and none is of a later one
+abbrev pub EndsIn : List LineSaid → ℕ → Type 0
+EndsIn said last =
+    ((k : ℕ) × (l : LineSaid) × (slice_get said k ≡ Some l) × (own_second l.said ≡ Some last))
+    × ((k own : ℕ) (l : LineSaid) → slice_get said k ≡ Some l → own_second l.said ≡ Some own
+    → own ≤ last)
 
 -- these are the lines up to a second: those before the first that is of a later one
 pub record AreUpTo (second : ℕ) (said lines : List LineSaid) : Type 0 where
@@ -139,8 +172,8 @@ pub record AreUpTo (second : ℕ) (said lines : List LineSaid) : Type 0 where
       → (own : ℕ) × (own_second l.said ≡ Some own) × (second < own)
 
 -- What is to be seen at the end of a second of a log: what the responses that were taken up to it
--- told last, the plan's prefixes and those that are shown, and the episode of the lines that were
--- refused up to it.
+-- told last; the plan's prefixes, and then those that are shown, as they came since they were last
+-- forgotten; and the episode of the lines that were refused up to it.
 pub record IsSeen (n : Network) (window : ℕ) (said : List LineSaid) (second : ℕ) (v : View)
     : Type 0 where
   pub first : ℕ
@@ -154,4 +187,7 @@ pub record IsSeen (n : Network) (window : ℕ) (said : List LineSaid) (second : 
   pub shows : ShowsIn window second taken (shown v.window)
   pub listed : (p : Block) → IsListed (shown v.window) p
       ↔ (IsPlanned n p ⊎ ((i m : ℕ) × IsShownBy window second taken i p m))
+  pub others : List Block
+  pub prefixes : v.window.prefixes ≡ n.prefixes ++ others
+  pub order : AreAsTheyCame window second taken others
   pub episode : IsEpisode window second refused v.episode
