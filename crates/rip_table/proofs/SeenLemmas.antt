@@ -2,7 +2,7 @@
 use Rattle.std.proofs.Common.{◌⊎◌, inl, inr, ◌≡◌, ℕ, zero, suc, ◌+◌, ◌-◌, ◌==◌, ◌<◌, ◌≤◌, nat_lt, Bool, true, false, cond, ◌||◌, List, [], ◌∷◌, ◌++◌, length, filter, Option, Some, None, Result, Ok, Err, refl, sym, ap, subst, ◌∙◌, arith, append-nil, append_assoc, add-zero}
 use Rattle.std.specs.Prelude.{◌↔◌, is_some}
 use Rattle.std.specs.List.{slice_get}
-use Rattle.std.proofs.lemmas.Bool.{cases_lt, eqb-true, ltb-true, or_cases}
+use Rattle.std.proofs.lemmas.Bool.{eqb-true, ltb-true, or_cases}
 use Rattle.std.proofs.lemmas.Bool.Decides.{nat_tests}
 use Rattle.std.proofs.lemmas.Option.{slice_get_within}
 use Rattle.rip_wire.specs.Prefix.{Block}
@@ -11,31 +11,26 @@ use Rattle.rip_wire.specs.Message.{Message, message_in, request, response}
 use Rattle.rip_wire.specs.declared.entry.Entry.{Entry}
 use Rattle.rip_wire.specs.declared.error.WireError.{WireError}
 use Rattle.rip_plan.proofs.ItemLemmas.{get_last}
-use Rattle.rip_plan.proofs.NumberingLemmas.{same_is, same_self}
-use Rattle.rip_plan.specs.Passes.{same_prefix}
 use Rattle.rip_plan.specs.Network.{Network}
 use Rattle.rip_plan.specs.Relations.{IsLawful}
 use Rattle.rip_log.specs.Lines.{Capture}
 use Rattle.rip_log.specs.TimedText.{LineSaid, TimedSaid, captured, bad, untimed}
 use Rattle.rip_table.specs.State.{Fits, IsState, State, is_among}
 use Rattle.rip_table.specs.Joined.{interface_of, joined_message, with_heard}
-use Rattle.rip_table.specs.LogJoin.{AreJoined, ComesBefore, HasBadEntry, HasEntry, IsListed, IsResponse}
+use Rattle.rip_table.specs.LogJoin.{AreJoined, HasBadEntry, HasEntry, IsListed, IsResponse}
 use Rattle.rip_table.specs.Remembered.{IsShownBy, IsToldBy, Remembers, ShowsIn, Taken}
-use Rattle.rip_table.specs.Scenes.{View, after_message, after_said, closed_view, first_of, new_view, passed_episode, passed_view, with_refusal, with_window}
+use Rattle.rip_table.specs.Scenes.{View, after_message, after_said, closed_view, new_view, passed_view, with_refusal, with_window}
 use Rattle.rip_table.specs.Seconds.{after_quiet, from_first, later_second, log_seconds, own_second, quiet, seconds_of}
-use Rattle.rip_table.specs.Seen.{AreAsTheyCame, AreInRow, AreUpTo, Become, BeginsIn, CameWith, IsBefore, IsEpisode, IsEpisodeFrom, IsNoResponse, IsPlanned, IsRefusedAs, IsSeen, IsToldSince, RefusedLine, no_line, is_taken, is_refused, is_neither, IsToldWithin}
+use Rattle.rip_table.specs.Seen.{AreAsTheyCame, AreUpTo, Become, BeginsIn, CameWith, IsBefore, IsNoResponse, IsPlanned, IsRefusedAs, IsSeen, IsToldSince, RefusedLine, no_line, is_taken, is_refused, is_neither, IsToldWithin}
 use Rattle.rip_table.specs.Window.{Window, Word, any_below, forgotten, passed, passed_word, shown, told_message, window_after, with_words, without_shown, word_or}
 use Rattle.rip_table.specs.WindowFacts.{IsState-without_shown}
 use Rattle.rip_table.specs.declared.error.TableError.{TableError}
-use Rattle.rip_table.specs.declared.scene.Episode.{Episode}
 use Rattle.rip_table.specs.declared.scene.LineCause.{LineCause}
 use Rattle.rip_table.specs.declared.scene.LineCause.TheVariants.{Log, Table, UnknownSender}
-use Rattle.rip_table.specs.declared.scene.LineRefusal.{LineRefusal}
 use Rattle.rip_table.proofs.CheckLemmas.{heard_valid}
 use Rattle.rip_table.proofs.ForgetLemmas.{any_at, filter_append, filter_some, forgotten-fits, forgotten-valid, is_left}
 use Rattle.rip_table.proofs.MakesLemmas.{either_list, front_at}
 use Rattle.rip_table.proofs.MetricLemmas.{LowerLaws, response_metrics}
-use Rattle.rip_table.proofs.NumberLemmas.{true-false}
 use Rattle.rip_table.proofs.PrefixListLemmas.{is_among-item}
 use Rattle.rip_table.proofs.RefusedLemmas.{entries_joined, response_refused}
 use Rattle.rip_table.proofs.RememberLemmas.{first_item, last_item, made_of, metric_in, remembers-forgotten, remembers-nothing, remembers-passed, told_by}
