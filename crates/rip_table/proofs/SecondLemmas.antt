@@ -112,7 +112,8 @@ begun n window first (q ∷ said) (l, at, is) =
     let here : own_second q.said ≡ Some first = ap (λ (x : LineSaid). own_second x.said) same ∙ is in
     ap (λ (o : Option ℕ). from_first n window o (q ∷ said)) here
 
-pub number-of-second : (n : Network) (window k first second : ℕ) (said : List LineSaid) (v : View) → BeginsIn said first → slice_get (log_seconds n window said) k ≡ Some (second, v) → second ≡ first + k
+pub number-of-second : (n : Network) (window k first second : ℕ) (said : List LineSaid) (v : View) → BeginsIn said first
+    → slice_get (log_seconds n window said) k ≡ Some (second, v) → second ≡ first + k
 number-of-second n window k first second said v begins at =
     seconds_number n window first (new_view n) said k (second, v) (ap (λ (l : List (ℕ × View)). slice_get l k) (sym (begun n window first said begins)) ∙ at)
 

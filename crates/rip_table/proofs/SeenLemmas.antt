@@ -105,7 +105,8 @@ alive_told window second (Some m) word from le h = inr (record { metric = m; lef
 
 -- the clause `told` of the law `windows`
 abbrev pub ToldLaw : Type 0
-ToldLaw = (n : Network) (seconds second i : ℕ) (old new : Window) (c : Capture) (entries : List Entry) (taken : List Taken) → 1 ≤ seconds → IsState (shown old) → Fits n (shown old) → IsResponse n c i entries
+ToldLaw = (n : Network) (seconds second i : ℕ) (old new : Window) (c : Capture) (entries : List Entry) (taken : List Taken) → 1 ≤ seconds
+    → IsState (shown old) → Fits n (shown old) → IsResponse n c i entries
     → told_message n seconds i old (response entries) ≡ Ok new → Remembers seconds second taken old
     → Remembers seconds second (taken ++ (record { second = second; interface = i; entries = entries }) ∷ []) new
 
@@ -293,8 +294,10 @@ module _ (below : LowerLaws) (told : ToldLaw) (n : Network) (lawful : IsLawful n
     taken = g.taken;
     refused = g.refused;
     become = g.become;
+    interfaces = g.fits.interfaces;
     shows = let now = shows_now lines last second v g in record { shows = now.shows; heard = now.heard };
     listed = closed_listed lines last second v g;
+    differ = (forgotten-valid n v.window g.valid).differ;
     others = filter (is_left n v.window) g.others;
     prefixes = left_prefixes lines last second v g;
     order = left_order lines last second v g;
@@ -523,7 +526,8 @@ module _ (below : LowerLaws) (told : ToldLaw) (n : Network) (lawful : IsLawful n
     answers : (r : Result Window TableError) → told_message n window i v.window (response entries) ≡ r → Going (lines ++ l ∷ []) second second (with_window window line r v)
     answers (Ok new) h = takes new h
     answers (Err e) h =
-        refuses lines last second v l (Table e) g now (i, shown v.window, response_is.from, is_before lines last second v g, (refused_by e).0 (joined_err (joined_message n i unshown (response entries)) h))
+        let first = (refused_by e).0 (joined_err (joined_message n i unshown (response entries)) h) in
+        refuses lines last second v l (Table e) g now (i, shown v.window, response_is.from, is_before lines last second v g, first)
       where
         joined_err : (r : Result State TableError) → window_after window i v.window r ≡ Err e → r ≡ Err e
         joined_err (Ok s) k = absurd (cc k)
@@ -579,7 +583,8 @@ module _ (below : LowerLaws) (told : ToldLaw) (n : Network) (lawful : IsLawful n
         let here : ◌≡◌ {A = ℕ × View} (second, closed_view n v) x = cc at in
         subst Sees here (seen said lines last second v begins (record { after = rest; split = split; early = g.early; late = λ l is. late l is second (omega arith) (omega arith) }) g)
     sees_quiet (suc count) lines rest last second v split late g (suc k) x at =
-        sees_quiet count lines rest last (second + 1) (passed_view (closed_view n v)) split (λ l is s low high. late l is s (omega (arith, low)) (omega (arith, high))) (passes lines last second v g) k x at
+        sees_quiet count lines rest last (second + 1) (passed_view (closed_view n v)) split (λ l is s low high. late l is s (omega (arith, low)) (omega (arith, high)))
+        (passes lines last second v g) k x at
 
     sees : (rest lines : List LineSaid) (second : ℕ) (v : View) → said ≡ lines ++ rest → Going lines second second v
         → (k : ℕ) (x : ℕ × View) → slice_get (seconds_of n window second v rest) k ≡ Some x → Sees x
@@ -596,7 +601,9 @@ module _ (below : LowerLaws) (told : ToldLaw) (n : Network) (lawful : IsLawful n
         let behind = comes lines second later (after_quiet n count v) l.line l.said there refl in
         elim (either_list (quiet n count second v) (seconds_of n window later (after_said n window l.line l.said (after_quiet n count v)) rest) k x at) [
           | inl early ↦ sees_quiet count lines (l ∷ rest) second second v split
-              (λ q is s low high. let same : l ≡ q = cc is in subst (λ (y : LineSaid). (own : ℕ) × (own_second y.said ≡ Some own) × (s < own)) same (later_than second s (own_second l.said) low (omega (arith, high, reach))))
+              (λ q is s low high.
+              let same : l ≡ q = cc is in
+              subst (λ (y : LineSaid). (own : ℕ) × (own_second y.said ≡ Some own) × (s < own)) same (later_than second s (own_second l.said) low (omega (arith, high, reach))))
               g k x early
           | inr (j, _, now) ↦ sees rest (lines ++ l ∷ []) later (after_said n window l.line l.said (after_quiet n count v)) (split ∙ sym (append_assoc lines (l ∷ []) rest)) behind j x now
         ]

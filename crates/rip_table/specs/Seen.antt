@@ -184,9 +184,11 @@ pub record IsSeen (n : Network) (window : ℕ) (said : List LineSaid) (second : 
   pub taken : List Taken
   pub refused : List RefusedLine
   pub become : Become n window first lines last taken refused
+  pub interfaces : v.window.interfaces ≡ length n.interfaces
   pub shows : ShowsIn window second taken (shown v.window)
   pub listed : (p : Block) → IsListed (shown v.window) p
       ↔ (IsPlanned n p ⊎ ((i m : ℕ) × IsShownBy window second taken i p m))
+  pub differ : AreDistinct v.window.prefixes
   pub others : List Block
   pub prefixes : v.window.prefixes ≡ n.prefixes ++ others
   pub order : AreAsTheyCame window second taken others

@@ -191,8 +191,8 @@ pub fn lasting_scenes()
     ensures once { (n : Network) (v : View) → closed_view n (closed_view n v) ≡ closed_view n v }
 {}
 
-/// A log that lies within a window and is joined ends with the table that it makes: what is shown at
-/// the end of its last second, in no episode, is what the log makes of a table without its times.
+/// A log that lies within a window and is joined ends with the table that it makes: in its last
+/// second is no episode, and what is shown then is what the log makes of a table without its times.
 pub fn last_seconds()
     ensures { (n : Network) (window : ℕ) (said : List LineSaid) (records : List Numbered)
         (s : State) → IsLawful n → AreWithin window said → AreCaptured said records →
@@ -214,7 +214,8 @@ pub fn running_seconds()
 {}
 
 /// What is to be seen at the end of each second of a log is what the words say: what the responses
-/// that were taken up to it told last, and the episode of the lines that were refused up to it.
+/// that were taken up to it told last, the prefixes as they came since they were last forgotten, and
+/// the episode of the lines that were refused up to it.
 pub fn seen_seconds()
     ensures { (n : Network) (window k second : ℕ) (said : List LineSaid) (v : View) →
         IsLawful n → 1 ≤ window → slice_get (log_seconds n window said) k ≡ Some (second, v) →
