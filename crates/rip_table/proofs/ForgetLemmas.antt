@@ -270,7 +270,7 @@ filter_few test (p ∷ ps) = by (test p) (filter_few test ps)
     by true later = omega (arith, later)
     by false later = omega (arith, later)
 
-filter_some : (test : Block → Bool) (p : Block) (ps : List Block) → test p ≡ true → is_among p ps ≡ true → is_among p (filter test ps) ≡ true
+pub filter_some : (test : Block → Bool) (p : Block) (ps : List Block) → test p ≡ true → is_among p ps ≡ true → is_among p (filter test ps) ≡ true
 filter_some test p [] t h = h
 filter_some test p (q ∷ ps) t h = by (filter_some test p ps t) (same_prefix p q) refl h (test q) refl
   where

@@ -13,10 +13,10 @@ use Rattle.rip_log.specs.Lines.{Capture}
 use Rattle.rip_log.specs.Logs.{Numbered}
 use Rattle.rip_log.specs.TimedText.{AreCaptured, LineSaid, TimedSaid}
 use Rattle.rip_table.specs.State.{State, is_among, new_state, with_prefix}
-use Rattle.rip_table.specs.Joined.{and_then, as_cause, interface_of, is_foreign, is_past, joined_at, joined_capture, joined_entries, joined_from, joined_message, joined_records, message_of_capture, with_heard, with_metric}
+use Rattle.rip_table.specs.Joined.{and_then, interface_of, is_foreign, is_past, joined_at, joined_capture, joined_entries, joined_from, joined_message, joined_records, message_of_capture, with_heard, with_metric}
 use Rattle.rip_table.specs.Rows.{shown_after}
 use Rattle.rip_table.specs.Scenes.{View, after_message, after_said, closed_view, new_view, passed_episode, passed_view, with_window}
-use Rattle.rip_table.specs.Seconds.{AreWithin, EndsShowing, after_quiet, from_first, later_second, log_seconds, own_second, quiet, seconds_of}
+use Rattle.rip_table.specs.Seconds.{AreWithin, EndsShowing, after_quiet, later_second, log_seconds, own_second, quiet, seconds_of}
 use Rattle.rip_table.specs.Window.{Window, Word, any_below, passed, passed_word, shown, window_after, with_words, without_shown, word_or}
 use Rattle.rip_table.specs.WindowRows.{new_word}
 use Rattle.rip_table.specs.declared.error.TableError.{TableError}
@@ -25,6 +25,8 @@ use Rattle.rip_table.proofs.AfterLemmas.{Listed, after_all, joined-after, joined
 use Rattle.rip_table.proofs.ForgetLemmas.{any_at, any_same, filter_append, is_left}
 use Rattle.rip_table.proofs.PrefixListLemmas.{is_among-append}
 use Rattle.rip_table.proofs.RememberLemmas.{metric_in}
+use Rattle.rip_table.proofs.SaidLemmas.{from_cause}
+use Rattle.rip_table.proofs.SecondLemmas.{begun}
 use Rattle.rip_table.proofs.TruthLemmas.{and-false, or-false, or-true, then-split}
 use Rattle.rip_table.proofs.WindowLemmas.{none_made, nothing_shown, same_number, words_made}
 
@@ -136,7 +138,8 @@ told_join n seconds i w es u some listed h = (told.0, told.1, same)
     made = joined-after n i (with_heard (without_shown i (shown w)) i) told.0 es (λ p m e. let none : None ≡ Some m = sym (nothing_shown i (shown w) p) ∙ e in absurd (cc none)) told.1
 
     shows_same : (j : ℕ) (q : Block)
-        → metric_in (cond (j == i) (word_or seconds (shown_after (λ m. Some m) (without_shown i (shown w)).shows i es i q) (w.words i q)) (w.words j q)) ≡ shown_after (λ m. Some m) (shown w).shows i es j q
+        → metric_in (cond (j == i) (word_or seconds (shown_after (λ m. Some m) (without_shown i (shown w)).shows i es i q) (w.words i q)) (w.words j q))
+        ≡ shown_after (λ m. Some m) (shown w).shows i es j q
     shows_same j q = ap metric_in (sym (words_made seconds i w.words es (without_shown i (shown w)).shows w.words (none_made seconds i w) j q)) ∙ metrics_made seconds i es w.words j q
 
     marked : (b : Bool) (mark : ℕ) → nat_lt 0 (cond b seconds mark) ≡ cond b true (nat_lt 0 mark)
@@ -146,9 +149,10 @@ told_join n seconds i w es u some listed h = (told.0, told.1, same)
     same : shown (with_words seconds i w told.0) ≡ u
     same =
         ap (λ (t : State). shown (with_words seconds i w t)) made
-        ∙ ap (λ (f : ℕ → Block → Option ℕ). record { interfaces = w.interfaces; prefixes = (after_all (with_heard (without_shown i (shown w)) i) i es).prefixes; shows = f; heard = λ j. nat_lt 0 (cond (j == i) seconds (w.heard j)) })
+        ∙ ap (λ (f : ℕ → Block → Option ℕ). record { interfaces = w.interfaces; prefixes = (after_all (shown w) i es).prefixes; shows = f; heard = λ j. nat_lt 0 (cond (j == i) seconds (w.heard j)) })
         (fun_ext (λ j. fun_ext (shows_same j)))
-        ∙ ap (λ (f : ℕ → Bool). record { interfaces = w.interfaces; prefixes = (after_all (shown w) i es).prefixes; shows = (after_all (shown w) i es).shows; heard = f }) (fun_ext (λ j. marked (j == i) (w.heard j)))
+        ∙ ap (λ (f : ℕ → Bool). record { interfaces = w.interfaces; prefixes = (after_all (shown w) i es).prefixes; shows = (after_all (shown w) i es).shows; heard = f })
+        (fun_ext (λ j. marked (j == i) (w.heard j)))
         ∙ sym after
 
 -- ---- nothing is forgotten
@@ -185,7 +189,8 @@ whole_with n i m p s lt h = record {
     by q true e among =
         ap (λ (b : Bool). is_among q n.prefixes || b) (any_at s.interfaces (λ j. is_some (cond ((j == i) && true) (Some m) (s.shows j q))) i lt (at q)) ∙ or-true (is_among q n.prefixes)
     by q false e among =
-        sym (ap (λ (b : Bool). is_among q n.prefixes || b) (any_same s.interfaces (λ j. is_some (s.shows j q)) (λ j. is_some (cond ((j == i) && false) (Some m) (s.shows j q))) (λ j. apart j q (j == i))))
+        let same = any_same s.interfaces (λ j. is_some (s.shows j q)) (λ j. is_some (cond ((j == i) && false) (Some m) (s.shows j q))) (λ j. apart j q (j == i)) in
+        sym (ap (λ (b : Bool). is_among q n.prefixes || b) same)
         ∙ h.left q (other_among p q s.prefixes e among)
 
 whole_after : (n : Network) (i : ℕ) (es : List Entry) (s : State) → i < s.interfaces → IsWhole n s → IsWhole n (after_all s i es)
@@ -203,7 +208,7 @@ record Keeps (n : Network) (k : ℕ) (v : View) : Type 0 where
   pub marks : (i : ℕ) → (v.window.heard i ≡ 0) ⊎ (k ≤ v.window.heard i)
   pub whole : IsWhole n (shown v.window)
 
-some_metric : (word : Option Word) → is_some (metric_in word) ≡ is_some word
+pub some_metric : (word : Option Word) → is_some (metric_in word) ≡ is_some word
 some_metric None = refl
 some_metric (Some x) = refl
 
@@ -214,16 +219,19 @@ closed_same n k v h =
   where
     all : (p : Block) → is_among p v.window.prefixes ≡ true → is_left n v.window p ≡ true
     all p among =
-        ap (λ (b : Bool). is_among p n.prefixes || b) (any_same v.window.interfaces (λ i. is_some (v.window.words i p)) (λ i. is_some (metric_in (v.window.words i p))) (λ i. sym (some_metric (v.window.words i p))))
+        let same = any_same v.window.interfaces (λ i. is_some (v.window.words i p)) (λ i. is_some (metric_in (v.window.words i p))) (λ i. sym (some_metric (v.window.words i p))) in
+        ap (λ (b : Bool). is_among p n.prefixes || b) same
         ∙ h.whole.left p among
 
 -- ---- a second
 
-word_kept : (k : ℕ) (word : Option Word) → 1 ≤ k → ((x : Word) → word ≡ Some x → suc k ≤ x.left) → (metric_in (passed_word word) ≡ metric_in word) × ((x : Word) → passed_word word ≡ Some x → k ≤ x.left)
+word_kept : (k : ℕ) (word : Option Word) → 1 ≤ k → ((x : Word) → word ≡ Some x → suc k ≤ x.left)
+    → (metric_in (passed_word word) ≡ metric_in word) × ((x : Word) → passed_word word ≡ Some x → k ≤ x.left)
 word_kept k None some old = (refl, λ x h. absurd (cc h))
 word_kept k (Some w) some old = by (nat_lt 1 w.left) (lt-ltb 1 w.left (omega (arith, some, old w refl)))
   where
-    by : (b : Bool) → b ≡ true → let word : Option Word = cond b (Some (record { metric = w.metric; left = w.left - 1 })) None in (metric_in word ≡ Some w.metric) × ((x : Word) → word ≡ Some x → k ≤ x.left)
+    by : (b : Bool) → b ≡ true
+        → let word : Option Word = cond b (Some (record { metric = w.metric; left = w.left - 1 })) None in (metric_in word ≡ Some w.metric) × ((x : Word) → word ≡ Some x → k ≤ x.left)
     by true e = (refl, λ x h. let left : w.left - 1 ≡ x.left = cc h in omega (arith, left, old w refl))
     by false e = absurd (cc e)
 
@@ -246,7 +254,8 @@ passed_keeps n k v some h = (
     same =
         ap (λ (f : ℕ → Block → Option ℕ). record { interfaces = v.window.interfaces; prefixes = v.window.prefixes; shows = f; heard = λ i. nat_lt 0 (v.window.heard i - 1) })
         (fun_ext (λ i. fun_ext (λ p. (word_kept k (v.window.words i p) some (h.words i p)).0)))
-        ∙ ap (λ (f : ℕ → Bool). record { interfaces = v.window.interfaces; prefixes = v.window.prefixes; shows = (shown v.window).shows; heard = f }) (fun_ext (λ i. (mark_kept k (v.window.heard i) some (h.marks i)).0))
+        ∙ ap (λ (f : ℕ → Bool). record { interfaces = v.window.interfaces; prefixes = v.window.prefixes; shows = (shown v.window).shows; heard = f })
+        (fun_ext (λ i. (mark_kept k (v.window.heard i) some (h.marks i)).0))
 
 quiet_keeps : (n : Network) (c k : ℕ) (v : View) → 1 ≤ k → Keeps n (k + c) v → Keeps n k (after_quiet n c v) × (shown (after_quiet n c v).window ≡ shown v.window)
 quiet_keeps n zero k v some h = let same : k + 0 ≡ k = omega arith in (subst (λ (j : ℕ). Keeps n j v) same h, refl)
@@ -280,10 +289,6 @@ told_keeps n k seconds i v t u le h same whole = record {
     mark j true = inr le
     mark j false = h.marks j
 
-joined_of : (r : Result State TableError) (u : State) → as_cause r ≡ Ok u → r ≡ Ok u
-joined_of (Ok s) u h = let same : s ≡ u = cc h in ap (λ (x : State). Ok x) same
-joined_of (Err e) u h = absurd (cc h)
-
 -- what is joined into the table is taken
 message_keeps : (n : Network) (k seconds line : ℕ) (i : Option ℕ) (m : Message) (v : View) (u : State) → 1 ≤ k → k ≤ seconds → ((j : ℕ) → i ≡ Some j → j < length n.interfaces) → Keeps n k v
     → joined_from n (shown v.window) m i ≡ Ok u → Keeps n k (after_message n seconds line i m v) × (shown (after_message n seconds line i m v).window ≡ u)
@@ -291,11 +296,11 @@ message_keeps n k seconds line None request v u some le below h joined = (h, cc 
 message_keeps n k seconds line None (response es) v u some le below h joined = absurd (cc joined)
 message_keeps n k seconds line (Some i) request v u some le below h joined = (record { calm = h.calm; words = h.words; marks = h.marks; whole = h.whole }, cc joined)
 message_keeps n k seconds line (Some i) (response es) v u some le below h joined =
-    let is = joined_of (joined_message n i (shown v.window) (response es)) u joined in
+    let is = from_cause (joined_message n i (shown v.window) (response es)) u joined in
     let lt : i < v.window.interfaces = omega (arith, below i refl, h.whole.wide) in
     let told = told_join n seconds i v.window es u (omega (arith, some, le)) (h.whole.listed i) is in
     let whole = whole_joined n i es (shown v.window) u lt h.whole is in
-    subst (λ (r : Result State TableError). Keeps n k (with_window seconds line (window_after seconds i v.window r) v) × (shown (with_window seconds line (window_after seconds i v.window r) v).window ≡ u)) (sym told.1)
+    subst (λ (r : Result State TableError). let x = with_window seconds line (window_after seconds i v.window r) v in Keeps n k x × (shown x.window ≡ u)) (sym told.1)
     (told_keeps n k seconds i v told.0 u le h told.2 whole, told.2)
 
 -- ---- a log
@@ -365,5 +370,5 @@ last-second n window said records s below within are joined =
     let some : within.second < within.second + window = within.close 0 within.second within.first at begins in
     let all = ends n window (within.second + window) below said records window within.second (new_view n) s refl (omega (arith, some)) (omega arith) (new_keeps n window) are within.close joined in
     let is : log_seconds n window said ≡ seconds_of n window within.second (new_view n) said =
-    ap (log_seconds n window) within.split ∙ ap (λ (o : Option ℕ). from_first n window o (within.first ∷ within.rest)) begins ∙ ap (seconds_of n window within.second (new_view n)) (sym within.split) in
+    begun n window within.second said (within.first, at, begins) in
     subst (λ (l : List (ℕ × View)). EndsShowing l s) (sym is) all

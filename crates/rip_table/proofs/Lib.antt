@@ -36,3 +36,7 @@ pub mod StrangerLemmas
 pub mod TalliedLemmas
 pub mod FirstLemmas
 pub mod LastSecondLemmas
+pub mod EpisodeLemmas
+pub mod ComingLemmas
+pub mod SecondLemmas
+pub mod SeenLemmas

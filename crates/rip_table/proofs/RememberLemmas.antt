@@ -6,6 +6,7 @@ use Rattle.std.proofs.lemmas.Bool.{eqb-true, ltb-true, lt-ltb}
 use Rattle.std.proofs.lemmas.Bool.Decides.{nat_tests}
 use Rattle.rip_wire.specs.Prefix.{Block}
 use Rattle.rip_wire.specs.declared.entry.Entry.{Entry}
+use Rattle.rip_plan.proofs.ItemLemmas.{get_last}
 use Rattle.rip_plan.specs.Network.{Network}
 use Rattle.rip_table.specs.State.{State}
 use Rattle.rip_table.specs.LogJoin.{AreTaken, HasEntry}
@@ -75,20 +76,16 @@ last_split (t ∷ taken) (b ∷ before) after new last h =
     more (inr x) one = inr (x.0, ap (λ (y : Taken). y ∷ taken) one ∙ ap (λ (ys : List Taken). b ∷ ys) x.1, x.2)
 
 -- an item of a list with one more is of the list, or that one
-last_item : (taken : List Taken) (new t : Taken) (k : ℕ) → slice_get (taken ++ new ∷ []) k ≡ Some t → ((slice_get taken k ≡ Some t) ⊎ (t ≡ new))
+pub last_item : {A : Type 0} (taken : List A) (new t : A) (k : ℕ) → slice_get (taken ++ new ∷ []) k ≡ Some t → ((slice_get taken k ≡ Some t) ⊎ (t ≡ new))
 last_item [] new t zero h = let one : new ≡ t = cc h in inr (sym one)
 last_item [] new t (suc k) h = absurd (cc h)
 last_item (x ∷ taken) new t zero h = inl h
 last_item (x ∷ taken) new t (suc k) h = last_item taken new t k h
 
-first_item : (taken : List Taken) (new t : Taken) (k : ℕ) → slice_get taken k ≡ Some t → slice_get (taken ++ new ∷ []) k ≡ Some t
+pub first_item : {A : Type 0} (taken : List A) (new t : A) (k : ℕ) → slice_get taken k ≡ Some t → slice_get (taken ++ new ∷ []) k ≡ Some t
 first_item [] new t k h = absurd (cc h)
 first_item (x ∷ taken) new t zero h = h
 first_item (x ∷ taken) new t (suc k) h = first_item taken new t k h
-
-end_item : (taken : List Taken) (new : Taken) → slice_get (taken ++ new ∷ []) (length taken) ≡ Some new
-end_item [] new = refl
-end_item (x ∷ taken) new = end_item taken new
 
 append_more : (before after : List Taken) (last new : Taken) → (before ++ last ∷ after) ++ new ∷ [] ≡ before ++ last ∷ (after ++ new ∷ [])
 append_more [] after last new = refl
@@ -150,7 +147,7 @@ shown-only seconds n taken new p m x told h = by (last_split taken h.before h.af
     by : ((taken ≡ h.before) × (new ≡ h.last) × (h.after ≡ [])) ⊎ ((rest : List Taken) × (taken ≡ h.before ++ h.last ∷ rest) × (h.after ≡ rest ++ new ∷ []))
         → IsToldBy new p m × (n < new.second + seconds)
     by (inl y) = (subst (λ (t : Taken). IsToldBy t p m) (sym y.1) h.told, subst (λ (t : Taken). n < t.second + seconds) (sym y.1) h.within)
-    by (inr y) = absurd (h.silent (length y.0) new x (ap (λ (ys : List Taken). slice_get ys (length y.0)) y.2 ∙ end_item y.0 new) refl told)
+    by (inr y) = absurd (h.silent (length y.0) new x (ap (λ (ys : List Taken). slice_get ys (length y.0)) y.2 ∙ get_last y.0 new) refl told)
 
 same-shown : (seconds n : ℕ) (taken : List Taken) (s t : State) → ((i : ℕ) (p : Block) → t.shows i p ≡ s.shows i p) → ((i : ℕ) → t.heard i ≡ s.heard i) → ShowsIn seconds n taken s → ShowsIn seconds n taken t
 same-shown seconds n taken s t shows heard h = record {
@@ -230,7 +227,7 @@ module _ (seconds n i : ℕ) (old : Window) (t : State) (entries : List Entry) (
       by : (b : Bool) → (j == i) ≡ b → (nat_lt 0 (cond b seconds (old.heard j) - k) ≡ true) ↔ IsHeardBy seconds (n + k) (taken ++ new ∷ []) j
       by true e =
           let same : j ≡ i = eqb-true j i e in (
-            λ d. let left : 0 < seconds - k = ltb-true 0 (seconds - k) d in (length taken, new, end_item taken new, sym same, omega (arith, left)),
+            λ d. let left : 0 < seconds - k = ltb-true 0 (seconds - k) d in (length taken, new, get_last taken new, sym same, omega (arith, left)),
             λ d. lt-ltb 0 (seconds - k) (elim (last_item taken new d.1 d.0 d.2) [
               | inl at ↦ omega (arith, d.4, h.past d.0 d.1 at)
               | inr one ↦ omega (arith, d.4, ap (λ (y : Taken). y.second) one)

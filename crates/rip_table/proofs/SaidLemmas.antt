@@ -263,7 +263,7 @@ from_request : (net : Network) (s t : State) (o : Option ℕ) → joined_from ne
 from_request net s t None h = cc h
 from_request net s t (Some i) h = cc h
 
-from_cause : (r : Result State TableError) (t : State) → as_cause r ≡ Ok t → r ≡ Ok t
+pub from_cause : (r : Result State TableError) (t : State) → as_cause r ≡ Ok t → r ≡ Ok t
 from_cause (Ok u) t h = let same : u ≡ t = cc h in ap (λ (x : State). Ok x) same
 from_cause (Err e) t h = absurd (cc h)
 

@@ -13,6 +13,7 @@ pub mod Scenes
 pub mod Seconds
 pub mod SceneViews
 pub mod LogJoin
+pub mod Seen
 pub mod Events
 pub mod CollectsAll
 pub mod Examples

@@ -1,7 +1,7 @@
 //! Laws of the definitions alone: functions that do nothing, whose contracts hold of every plan and
 //! every log.
 
-ghost use Rattle.std.specs.Prelude.{◌≡◌, ◌≢◌, ◌≤◌, ◌↔◌, ◌+◌, ℕ, true, List, [], ◌∷◌, ◌++◌, Option, None, Some, Ok, Err, slice_get};
+ghost use Rattle.std.specs.Prelude.{◌≡◌, ◌≢◌, ◌≤◌, ◌↔◌, ◌+◌, ℕ, true, List, [], ◌∷◌, ◌++◌, Option, None, Some, Ok, Err, length, slice_get};
 ghost use Rattle.rip_wire.specs.Message.{request, response, message_in};
 ghost use Rattle.rip_wire.specs.declared.entry.Entry.{Entry};
 ghost use Rattle.rip_plan.specs.Network.{Network, found_at};
@@ -21,6 +21,7 @@ ghost use Rattle.rip_log.specs.TimedText.{AreCaptured, LineSaid, TimedSaid};
 ghost use Rattle.rip_table.specs.Remembered.{Remembers, Taken};
 ghost use Rattle.rip_table.specs.Scenes.{LastsFor, View, after_said, closed_view, new_view, passed_view};
 ghost use Rattle.rip_table.specs.Seconds.{AreWithin, EndsShowing, log_seconds};
+ghost use Rattle.rip_table.specs.Seen.{BeginsIn, EndsIn, IsSeen};
 ghost use Rattle.rip_table.specs.declared.error.CollectCause.{CollectCause};
 ghost use Rattle.rip_table.specs.declared.error.CollectCause.TheVariants.{Table};
 ghost use Rattle.rip_table.specs.declared.error.TableError.{TableError};
@@ -190,8 +191,8 @@ pub fn lasting_scenes()
     ensures once { (n : Network) (v : View) → closed_view n (closed_view n v) ≡ closed_view n v }
 {}
 
-/// A log that lies within a window and is joined ends with the table that it makes: what is shown at
-/// the end of its last second, in no episode, is what the log makes of a table without its times.
+/// A log that lies within a window and is joined ends with the table that it makes: in its last
+/// second is no episode, and what is shown then is what the log makes of a table without its times.
 pub fn last_seconds()
     ensures { (n : Network) (window : ℕ) (said : List LineSaid) (records : List Numbered)
         (s : State) → IsLawful n → AreWithin window said → AreCaptured said records →
@@ -199,6 +200,29 @@ pub fn last_seconds()
 {
     new_states();
     joined_logs();
+    rip_plan::laws::senders();
+}
+
+/// The seconds of a log run from that of its first line to the last that a line has, one by one.
+pub fn running_seconds()
+    ensures number { (n : Network) (window k first second : ℕ) (said : List LineSaid) (v : View) →
+        BeginsIn said first → slice_get (log_seconds n window said) k ≡ Some (second, v) →
+        second ≡ first + k }
+    ensures count { (n : Network) (window first last : ℕ) (said : List LineSaid) →
+        BeginsIn said first → EndsIn said last →
+        first + length (log_seconds n window said) ≡ last + 1 }
+{}
+
+/// What is to be seen at the end of each second of a log is what the words say: what the responses
+/// that were taken up to it told last, the prefixes as they came since they were last forgotten, and
+/// the episode of the lines that were refused up to it.
+pub fn seen_seconds()
+    ensures { (n : Network) (window k second : ℕ) (said : List LineSaid) (v : View) →
+        IsLawful n → 1 ≤ window → slice_get (log_seconds n window said) k ≡ Some (second, v) →
+        IsSeen n window said second v }
+{
+    windows();
+    laws::response_fields();
     rip_plan::laws::senders();
 }
 
