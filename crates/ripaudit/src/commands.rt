@@ -1,9 +1,10 @@
 //! The commands that the words may ask for, and what each of them runs.
 
-ghost use Rattle.std.specs.Prelude.{◌≡◌, ◌≢◌, ◌⊎◌, ◌+◌, ◌≤◌, ◌<◌, ◌↔◌, ◌++◌, ℕ, List, Bool, Option, Some, None, Ok, Err, false, true, codes, length, IfOk};
+ghost use Rattle.std.specs.Prelude.{◌≡◌, ◌≢◌, ◌⊎◌, ◌+◌, ◌≤◌, ◌<◌, ◌↔◌, ◌++◌, ℕ, List, Bool, Option, Some, None, Ok, Err, false, true, codes, length, IfOk, IfSome, IsSomeAnd};
 ghost use Rattle.rip_plan.specs.Network.{Network};
 ghost use Rattle.rip_plan.specs.Relations.{IsPlain};
 ghost use Rattle.rip_table.specs.State.{State};
+ghost use Rattle.rip_table.specs.declared.limits.TheConstants.{MOST_WINDOW};
 ghost use Rattle.rip_check.specs.Laws.{OneIsShown};
 ghost use Rattle.rip_check.specs.Told.{told};
 ghost use Rattle.rip_report.specs.AuditText.{AnswersRightly, IsJudged, ShowsPlainRightTables};
@@ -149,8 +150,8 @@ pub(crate) fn manner(without_authentication: bool, times: bool) -> Manner
 /// How to watch, by the seconds of the window, 90 if left out, and by its flag.
 pub(crate) fn watching(window: Option<u32>, until_settled: bool) -> Option<Watching>
     ensures default { window ≡ None → IsSomeAnd result (λ w. w.length ≡ 90) }
-    ensures window { IfSome window (λ seconds. IsSomeAnd result (λ w. w.length ≡ seconds)
-        ⊎ (seconds < 1) ⊎ (MOST_WINDOW < seconds)) }
+    ensures given { (seconds : ℕ) → window ≡ Some seconds → 1 ≤ seconds → seconds ≤ MOST_WINDOW →
+        IsSomeAnd result (λ w. w.length ≡ seconds) }
     ensures until { IfSome result (λ w. w.until_settled ≡ until_settled) }
 {
     let length = WindowLength::new(window.unwrap_or(DEFAULT_WINDOW))?;
