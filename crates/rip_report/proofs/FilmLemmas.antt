@@ -1,11 +1,10 @@
 -- How far a film has come.
-use Rattle.std.proofs.Common.{◌≡◌, ◌≢◌, ◌∙◌, ◌+◌, ◌-◌, ◌<◌, ◌≤◌, ◌++◌, nat_lt, [], ◌∷◌, ℕ, zero, suc, Bool, true, false, cond, List, Option, Some, None, Result, Ok, Err, IfOk, IfSome, inl, refl, sym, ap, subst, append_assoc, append-nil, arith}
+use Rattle.std.proofs.Common.{◌≡◌, ◌≢◌, ◌∙◌, ◌+◌, ◌-◌, ◌≤◌, ◌++◌, nat_lt, [], ◌∷◌, ℕ, Bool, true, false, cond, List, Option, Some, None, Result, Ok, Err, IfOk, IfSome, inl, refl, sym, ap, subst, append_assoc, append-nil, arith}
 use Rattle.std.proofs.lemmas.Bool.{ltb-true}
 use Rattle.std.specs.Prelude.{OnErr}
 use Rattle.std.specs.declared.alloc.AllocError.{AllocError}
-use Rattle.rip_log.specs.TimedCall.{bad_said, timed_capture, timed_said_of}
-use Rattle.rip_log.specs.TimedText.{LineSaid, captured, untimed}
-use Rattle.rip_log.specs.declared.error.LogCode.{LogCode}
+use Rattle.rip_log.specs.TimedCall.{bad_said, timed_capture}
+use Rattle.rip_log.specs.TimedText.{LineSaid, captured}
 use Rattle.rip_log.specs.declared.timed.reader.TimedFault.{TimedFault}
 use Rattle.rip_log.specs.declared.timed.reader.TimedLine.{TimedLine}
 use Rattle.rip_log.specs.declared.timed.reader.TimedLine.TheVariants.{Bad, Record, Skipped}
@@ -16,7 +15,7 @@ use Rattle.rip_table.specs.declared.scene.LineCause.TheVariants.{Log}
 use Rattle.rip_report.specs.Films.{EndsFilm, HasShown, IsEnd, IsNotTimed, LineBegun, QuietFilm, Stage, TakesLine, line_second, seconds_before, with_line}
 use Rattle.rip_report.specs.Outs.{AddsOne, Progress}
 use Rattle.rip_report.specs.RefusalText.{refusal_line}
-use Rattle.rip_report.specs.WatchText.{AreNotSettled, FilmOf, FilmToSettled, IsShot, Shots, Watched, WatchedFront}
+use Rattle.rip_report.specs.WatchText.{FilmOf, FilmToSettled, IsShot, Shots, Watched, WatchedFront}
 use Rattle.rip_report.specs.Written.{Written}
 use Rattle.rip_report.specs.declared.status.Status.{Status}
 use Rattle.rip_report.specs.declared.status.Status.TheVariants.{Done, Refused, Settled, Unclear, Unsettled}
@@ -108,8 +107,9 @@ module _ {n : Network} {window : ℕ} {until : Bool} {old : Stage} (line : Timed
   shown_on new more film begins second view all to_come text (HasShown.nothing not_yet last was same none) = absurd (cc (begun, not_yet))
   shown_on new more film begins second view all to_come text (HasShown.seconds before is seconds shown) =
       let here : seconds_of n window (old.second + seconds_before old.second line) (after_line n window line (after_quiet n (seconds_before old.second line) old.view)) to_come
-          ≡ seconds_of n window new.second new.view to_come = ap (λ (s : ℕ). seconds_of n window s (after_line n window line (after_quiet n (seconds_before old.second line) old.view)) to_come) (sym second)
-          ∙ ap (λ (u : View). seconds_of n window new.second u to_come) (sym view) in
+      ≡ seconds_of n window new.second new.view to_come = ap (λ (s : ℕ). seconds_of n window s (after_line n window line (after_quiet n (seconds_before old.second line) old.view)) to_come)
+          (sym second)
+      ∙ ap (λ (u : View). seconds_of n window new.second u to_come) (sym view) in
       let front = before ++ quiet n (seconds_before old.second line) old.second old.view in
       HasShown.seconds front begins (passed n window old.second old.view all to_come before line seconds ∙ ap (λ (xs : List (ℕ × View)). front ++ xs) here) (films_then shown film)
 

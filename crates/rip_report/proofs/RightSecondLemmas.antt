@@ -1,5 +1,5 @@
 -- What the last verdict of a film says.
-use Rattle.std.proofs.Common.{◌≡◌, ◌≢◌, ◌∙◌, ◌++◌, [], ◌∷◌, ℕ, zero, suc, Bool, true, false, ◌↔◌, List, None, refl, sym, ap, subst, append_assoc, append-nil, arith}
+use Rattle.std.proofs.Common.{◌≡◌, ◌≢◌, ◌∙◌, ◌++◌, [], ◌∷◌, ℕ, suc, Bool, true, false, ◌↔◌, List, None, refl, sym, ap, subst, append_assoc, arith}
 use Rattle.rip_log.specs.TimedText.{LineSaid, TimedSaid, untimed}
 use Rattle.rip_log.specs.declared.error.LogCode.{LogCode}
 use Rattle.rip_plan.specs.Network.{Network}
@@ -127,7 +127,6 @@ untimed_none : (n : Network) (window : ℕ) (said : List LineSaid) (first : Line
 untimed_none n window said first others code is none = ap (log_seconds n window) is ∙ ap (λ (t : TimedSaid). from_first n window (own_second t) (first ∷ others)) none
 
 module _ {n : Network} {window : ℕ} {until : Bool} {said : List LineSaid} where
-
   pub ends_right : {w : Written} → Watched n window until said w → (w.status ≡ Settled) ↔ EndsRight n window until said
   ends_right (Watched.no_line none) = (
     λ is. let same : Unclear ≡ Settled = is in absurd (cc same),
@@ -167,7 +166,8 @@ module _ {n : Network} {window : ℕ} {until : Bool} {said : List LineSaid} wher
   -- where a film that goes to the end of a log ends in no episode, its status is that of the verdict on what is shown
   pub ends_verdict : {w : Written} (s : State) → until ≡ false → Watched n window until said w → EndsShowing (log_seconds n window said) s → IsVerdictStatus n s w.status
   ends_verdict s goes_on (Watched.no_line none) ends = absurd (never ends.before (ends.second, ends.view) [] (sym (ap (log_seconds n window) none) ∙ ends.split))
-  ends_verdict s goes_on (Watched.no_time first others code is none) ends = absurd (never ends.before (ends.second, ends.view) [] (sym (untimed_none n window said first others code is none) ∙ ends.split))
+  ends_verdict s goes_on (Watched.no_time first others code is none) ends = absurd (never ends.before (ends.second, ends.view) [] (sym
+      (untimed_none n window said first others code is none) ∙ ends.split))
   ends_verdict s goes_on (Watched.to_settled text ended before after is split film) ends = absurd (cc (goes_on, is))
   ends_verdict s goes_on (Watched.to_end text ended statuses status shots none) ends =
       let last = last_second statuses status shots refl in

@@ -1,5 +1,5 @@
 -- The lines of a log with times behind a reader.
-use Rattle.std.proofs.Common.{◌≡◌, ◌⊎◌, ◌+◌, ◌≤◌, ◌++◌, ◌∙◌, [], ◌∷◌, ℕ, Bool, true, false, length, List, Option, Some, None, IfSome, Ok, Err, inl, inr, refl, sym, ap, subst, arith}
+use Rattle.std.proofs.Common.{◌≡◌, ◌⊎◌, ◌+◌, ◌++◌, ◌∙◌, [], ◌∷◌, ℕ, Bool, true, false, length, List, Option, Some, None, IfSome, Ok, Err, inl, inr, refl, sym, ap, subst, arith}
 use Rattle.std.specs.Io.KnownBytes.{Keeps}
 use Rattle.std.proofs.lemmas.List.{length-append}
 use Rattle.rip_log.specs.Cuts.{HasLine, IsEndless, PassesLines}
@@ -64,7 +64,8 @@ unread_to broken (Some t) (Some rest) k passed (inr (inr full)) =
 abbrev SaysSome : Type 0
 SaysSome = (n : ℕ) (lines : List (List ℕ)) → (said : List LineSaid) × AreTimedSaid n lines said
 
-module _ (exists : SaysSome) (n : Network) (window : ℕ) (until : Bool) (text t : Option (List ℕ)) (k : ℕ) (old : Stage) (printed : List ℕ) (shown : HasShownOf n window until text t k old printed) where
+module _ (exists : SaysSome) (n : Network) (window : ℕ) (until : Bool) (text t : Option (List ℕ)) (k : ℕ) (old : Stage) (printed : List ℕ)
+    (shown : HasShownOf n window until text t k old printed) where
   -- where no more is read
   pub gives_up : (e : RunError) → ShowsText n window until text (Err e) printed
   gives_up e =
@@ -86,7 +87,8 @@ module _ (exists : SaysSome) (n : Network) (window : ℕ) (until : Bool) (text t
     says_line to_come says =
         line_says t left line k takes (subst (λ (j : ℕ). IfSome (timed_number line) (λ i. i ≡ j)) next number) to_come (subst (λ (j : ℕ). SaysBehind j left to_come) next says)
 
-    pub goes_on : (new : Stage) (more : List ℕ) → ((all to_come : List LineSaid) (text : List ℕ) → HasShown n window until old all (with_line line to_come) text → HasShown n window until new all to_come (text ++ more))
+    pub goes_on : (new : Stage) (more : List ℕ) → ((all to_come : List LineSaid) (text : List ℕ) → HasShown n window until old all (with_line line to_come) text
+        → HasShown n window until new all to_come (text ++ more))
         → HasShownOf n window until text left m new (printed ++ more)
     goes_on new more goes to_come says =
         let so_far = shown (with_line line to_come) (says_line to_come says) in

@@ -1,10 +1,10 @@
 -- What the verdict of a second is.
-use Rattle.std.proofs.Common.{◌≡◌, ◌≢◌, ◌∙◌, ◌+◌, ◌-◌, ◌<◌, ◌≤◌, ◌++◌, min, nat_lt, [], ◌∷◌, ℕ, zero, suc, Bool, true, false, cond, inl, inr, ◌⊎◌, List, Option, Some, None, Result, Ok, Err, IfOk, refl, sym, ap, subst, append_assoc, append-nil, arith}
+use Rattle.std.proofs.Common.{◌≡◌, ◌≢◌, ◌∙◌, ◌+◌, ◌-◌, ◌≤◌, ◌++◌, min, nat_lt, [], ◌∷◌, ℕ, zero, suc, Bool, true, false, inl, inr, ◌⊎◌, List, Option, Some, None, Result, Ok, Err, IfOk, refl, sym, ap, subst, append_assoc, append-nil, arith}
 use Rattle.std.specs.Prelude.{codes, option_map}
 use Rattle.std.proofs.lemmas.Bool.{ltb-true, ltb-false}
 use Rattle.std.specs.declared.alloc.AllocError.{AllocError}
 use Rattle.rip_log.specs.TimedCall.{bad_said, timed_capture}
-use Rattle.rip_log.specs.TimedText.{LineSaid, TimedSaid, captured}
+use Rattle.rip_log.specs.TimedText.{TimedSaid, captured}
 use Rattle.rip_log.specs.declared.timed.reader.TimedLine.{TimedLine}
 use Rattle.rip_log.specs.declared.timed.reader.TimedLine.TheVariants.{Bad, Record, Skipped}
 use Rattle.rip_log.specs.Times.{IsSecondText}
@@ -19,14 +19,14 @@ use Rattle.rip_check.specs.Told.{told}
 use Rattle.rip_check.specs.Walks.{PacketsArrive}
 use Rattle.rip_report.specs.AuditText.{IsJudged, VerdictText}
 use Rattle.rip_report.specs.RefusalText.{refusal_line}
-use Rattle.rip_table.specs.Seconds.{after_quiet, later_second, own_second, quiet, seconds_of}
+use Rattle.rip_table.specs.Seconds.{after_quiet, quiet}
 use Rattle.rip_report.specs.Films.{QuietFilm}
 use Rattle.rip_report.specs.WatchText.{AreNotSettled, FilmOf, FilmToSettled, IsShot, SceneText, SettlesRightly, Shots}
 use Rattle.rip_report.specs.Outs.{Adds, AddsOne, Progress}
 use Rattle.rip_report.specs.declared.status.Status.{Status}
 use Rattle.rip_report.proofs.OutLemmas.{adds_nothing, adds_one, adds_then}
 use Rattle.rip_report.specs.Written.{Written}
-use Rattle.rip_report.specs.declared.status.Status.TheVariants.{Done, Refused, Settled, Unclear, Unsettled}
+use Rattle.rip_report.specs.declared.status.Status.TheVariants.{Refused, Settled}
 
 abbrev first_in : Option Episode → Option LineRefusal
 first_in o = option_map (λ (e : Episode). e.first) o
@@ -75,7 +75,8 @@ settles_judged (Err e) n v s same none judged = tt
 
 -- what is printed where the verdict is another than before
 pub other_shot : {a b : Progress} {time text last : List ℕ} {status : Status} {second : ℕ} (n : Network) (v : View) → SceneText n v (record { text = text; status = status })
-    → SettlesRightly n v status → text ≢ last → IsSecondText second time → Adds a b (((time ++ codes " ") ++ text) ++ []) → AddsOne a b (IsShot n second v last (record { text = text; status = status }))
+    → SettlesRightly n v status → text ≢ last → IsSecondText second time → Adds a b (((time ++ codes " ") ++ text) ++ [])
+    → AddsOne a b (IsShot n second v last (record { text = text; status = status }))
 other_shot {time = time} {text = text} n v verdict settles other is adds =
     let whole : ((time ++ codes " ") ++ text) ++ [] ≡ time ++ codes " " ++ text = append-nil ((time ++ codes " ") ++ text) in
     adds_one (record {
@@ -143,7 +144,8 @@ pub film_settled : {n : Network} {until : Bool} {last mid text more : List ℕ} 
 film_settled {n = n} {last = last} {text = text} {more = more} second k v {w = w} film is shot settled = (
   film.0,
   subst (λ (xs : List (ℕ × View)). Shots n last xs (text ++ more) w.text (film.0 ++ Settled ∷ [])) (sym (quiet_more n k second v))
-      (subst (λ (s : Status). Shots n last (quiet n k second v ++ (second + k, closed_view n (after_quiet n k v)) ∷ []) (text ++ more) w.text (film.0 ++ s ∷ [])) settled (shots_then film.1 (shots_one shot))),
+      (subst (λ (s : Status). Shots n last (quiet n k second v ++ (second + k, closed_view n (after_quiet n k v)) ∷ []) (text ++ more) w.text (film.0 ++ s ∷ [])) settled (shots_then film.1
+      (shots_one shot))),
   film.2 is,
 )
 
@@ -151,7 +153,8 @@ pub film_none : (n : Network) (until : Bool) (last : List ℕ) → FilmOf n unti
 film_none n until last = ([], Shots.none last, λ is k d lt. absurd (omega (arith, lt)))
 
 -- what was added, and then more
-pub added_then : {a b c : Progress} {IsText IsMore IsBoth : List ℕ → Type 0} → ((text more : List ℕ) → IsText text → IsMore more → IsBoth (text ++ more)) → AddsOne a b IsText → AddsOne b c IsMore → AddsOne a c IsBoth
+pub added_then : {a b c : Progress} {IsText IsMore IsBoth : List ℕ → Type 0} → ((text more : List ℕ) → IsText text → IsMore more → IsBoth (text ++ more)) → AddsOne a b IsText → AddsOne b c IsMore
+    → AddsOne a c IsBoth
 added_then both first later = adds_one (both first.text later.text first.is_text later.is_text) (adds_then first.adds later.adds)
 
 -- ---- seconds in which nothing is left
@@ -185,7 +188,8 @@ still_after n zero v still = refl
 still_after n (suc k) v still = ap (λ (u : View). after_quiet n k (passed_view u)) still.closes ∙ ap (after_quiet n k) still.passes ∙ still_after n k v still
 
 -- where the verdict is that of the second before, nothing is printed for however many seconds
-still_shots : (n : Network) (k second : ℕ) (v : View) (w : Written) → IsStill n v → SceneText n v w → SettlesRightly n v w.status → (statuses : List Status) × Shots n w.text (quiet n k second v) [] w.text statuses × (w.status ≢ Settled → AreNotSettled statuses)
+still_shots : (n : Network) (k second : ℕ) (v : View) (w : Written) → IsStill n v → SceneText n v w → SettlesRightly n v w.status
+    → (statuses : List Status) × Shots n w.text (quiet n k second v) [] w.text statuses × (w.status ≢ Settled → AreNotSettled statuses)
 still_shots n zero second v w still verdict settles = ([], Shots.none w.text, λ other k d lt. absurd (omega (arith, lt)))
 still_shots n (suc k) second v w still verdict settles =
     let rest = still_shots n k (second + 1) v w still verdict settles in

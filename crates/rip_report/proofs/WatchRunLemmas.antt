@@ -86,7 +86,8 @@ module _ {K : Type 0} (taken : K → Taken) (broken : K → Bool) (a b : K) wher
   said_of IsText printed (Err e) status same text = absurd (cc same)
 
   along : (IsText IsFront : Written → Type 0) (printed : List ℕ) (ended answer : Result Status RunError) → IfOk ended (λ status. IsText (record { text = printed; status = status }))
-      → IsFront (record { text = printed; status = Refused }) → EndsWith (sink_state taken broken a) (sink_state taken broken b) printed ended answer → PrintsAlong taken broken a b answer IsText IsFront
+      → IsFront (record { text = printed; status = Refused }) → EndsWith (sink_state taken broken a) (sink_state taken broken b) printed ended answer
+      → PrintsAlong taken broken a b answer IsText IsFront
   along IsText IsFront printed ended (Ok status) text front e =
       let out = e.out (λ h. cc h) in
       let told = said_of IsText printed ended status (sym out.0) text in
@@ -126,13 +127,15 @@ module _ {K : Type 0} (taken : K → Taken) (broken : K → Bool) (a b : K) wher
       whole (Ok status) h = (h.0, also (record { text = h.0; status = status }) h.1, h.2)
       whole (Err e) h = tt
 
-      part : (r : Result Status RunError) → OnErr r (Keeps (taken a) (taken b) ⊎ BeginningOut IsFront (taken a) (taken b)) → OnErr r (Keeps (taken a) (taken b) ⊎ BeginningOut IsAlsoFront (taken a) (taken b))
+      part : (r : Result Status RunError) → OnErr r (Keeps (taken a) (taken b) ⊎ BeginningOut IsFront (taken a) (taken b))
+          → OnErr r (Keeps (taken a) (taken b) ⊎ BeginningOut IsAlsoFront (taken a) (taken b))
       part (Ok status) h = tt
       part (Err e) (inl kept) = inl kept
       part (Err e) (inr out) = inr (out.0, front out.0 out.1, out.2)
 
 -- what is answered is what the run ended with, unless the sink has failed
-pub answered : {old new : SinkState} {text : List ℕ} {ended : Result Status RunError} (P : Status → Type 0) (answer : Result Status RunError) → EndsWith old new text ended answer → IfOk ended P → IfOk answer P
+pub answered : {old new : SinkState} {text : List ℕ} {ended : Result Status RunError} (P : Status → Type 0) (answer : Result Status RunError) → EndsWith old new text ended answer → IfOk ended P
+    → IfOk answer P
 answered {ended = ended} P (Ok status) e h = by ended (e.out (λ is. cc is)).0 h
   where
     by : (r : Result Status RunError) → Ok status ≡ r → IfOk r P → P status
@@ -178,9 +181,9 @@ ends_settled law one n window until text printed (Ok status) (all, are, watched)
     subst (λ (l : List LineSaid). (status ≡ Settled) ↔ EndsRight n window until l) (same_said law one text says.lines all said are says.are_lines says.are_said) (ends_right watched)
 
 pub ends_film_of : LinesLaw → OneLaw → (timed : (m n : ℕ) (lines bares : List (List ℕ)) (said : List LineSaid) (records : List Numbered) → AreTimedOf lines bares → AreRecords m bares records
-        → AreTimedSaid n lines said → AreCaptured said records)
+    → AreTimedSaid n lines said → AreCaptured said records)
     → (last : (n : Network) (window : ℕ) (said : List LineSaid) (records : List Numbered) (s : State) → IsLawful n → AreWithin window said → AreCaptured said records
-        → IsJoined n (new_state n) records s → EndsShowing (log_seconds n window said) s)
+    → IsJoined n (new_state n) records s → EndsShowing (log_seconds n window said) s)
     → (n : Network) (window : ℕ) (until : Bool) (text printed plain : List ℕ) (ended : Result Status RunError) → IsLawful n → ShowsText n window until (Some text) ended printed → until ≡ false
     → LiesWithin window text plain → (s : State) → IsTable n plain s → IfOk ended (IsVerdictStatus n s)
 ends_film_of law one timed last n window until text printed plain (Err e) lawful shown goes_on within s table = tt

@@ -14,3 +14,5 @@ mod logs;
 mod plans;
 #[cfg(test)]
 mod statuses;
+#[cfg(test)]
+mod watch;

@@ -43,7 +43,8 @@ returns-in-Err-clause-runs g c =
           refused_along (WatchText watching.length watching.until_settled bytes text) (WatchFront watching.length watching.until_settled bytes text) fault K.taken K.broken c.args.out
           c.refuse_plan-out.result.0 answer (λ other. a_fault fault (first_told bytes fault c.in-Err.ensures.told other)) (λ other. a_fault fault (first_told bytes fault c.in-Err.ensures.told other))
           refused.memory refused.prints;
-      draws = undrawn_times S watching.until_settled c.args.log fault K.taken K.broken c.args.out c.refuse_plan-out.result.0 answer (g.met.R.Source.nothing_left c.args.log) refused.read refused.prints;
+      draws = undrawn_times S watching.until_settled c.args.log fault K.taken K.broken c.args.out c.refuse_plan-out.result.0 answer
+          (g.met.R.Source.nothing_left c.args.log) refused.read refused.prints;
       refuses = search rules;
     }
 

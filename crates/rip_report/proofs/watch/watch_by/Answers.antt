@@ -31,7 +31,8 @@ returns g c =
         prints = λ text given.
             prints_along K.taken K.broken c.args.out c.finish_with-out.result.0 lines n watching.length watching.until_settled text c.new-text.result c.watch_lines-ended.new.out ended answer
             c.new-text.ensures.start c.new-text.ensures.text
-            (shown_told S.given S.at_end log new after reader c.new-text.result c.watch_lines-ended.new.out n watching.length watching.until_settled ended text c.into_source.ensures front run.shows given) end;
+            (shown_told S.given S.at_end log new after reader c.new-text.result c.watch_lines-ended.new.out n watching.length watching.until_settled ended text c.into_source.ensures front run.shows
+            given) end;
         draws = record {
           went = went;
           to_come = told_given S.given S.coming S.at_end log new went (g.met.R.Source.nothing_left new);
@@ -42,12 +43,15 @@ returns g c =
               (subst (λ (s : g.row.R.Denot). IfOk ended (λ status. (watching.until_settled ≡ true → status ≢ Settled) → status ≢ Refused → S.at_end s ≡ true)) (sym c.into_source.ensures) run.ended);
         };
         settled = λ text given said says.
-            let shown = shown_told S.given S.at_end log new after reader c.new-text.result c.watch_lines-ended.new.out n watching.length watching.until_settled ended text c.into_source.ensures front run.shows given in
+            let shown = shown_told S.given S.at_end log new after reader c.new-text.result c.watch_lines-ended.new.out n watching.length watching.until_settled ended text c.into_source.ensures front
+                run.shows given in
             answered (λ status. (status ≡ Settled) ↔ EndsRight n watching.length watching.until_settled said) answer end
             (ends_settled lines one n watching.length watching.until_settled text shown.text ended shown.is_text said says);
         film = λ text plain given within goes_on s table.
-            let shown = shown_told S.given S.at_end log new after reader c.new-text.result c.watch_lines-ended.new.out n watching.length watching.until_settled ended text c.into_source.ensures front run.shows given in
+            let shown = shown_told S.given S.at_end log new after reader c.new-text.result c.watch_lines-ended.new.out n watching.length watching.until_settled ended text c.into_source.ensures front
+                run.shows given in
             answered (IsVerdictStatus n s) answer end
-            (ends_film_of lines one c.timed_records.ensures c.last_seconds.ensures n watching.length watching.until_settled text shown.text plain ended c.lawful.ensures shown.is_text goes_on within s table);
+            (ends_film_of lines one c.timed_records.ensures c.last_seconds.ensures n watching.length watching.until_settled text shown.text plain ended c.lawful.ensures shown.is_text goes_on within
+            s table);
       };
     }

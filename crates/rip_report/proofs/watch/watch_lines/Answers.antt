@@ -1,12 +1,10 @@
-use Rattle.std.proofs.Common.{◌≡◌, ◌∙◌, ◌+◌, ◌++◌, ℕ, List, Option, None, Some, Ok, Err, true, refl, sym, ap, subst, arith, inl, inr, rules}
+use Rattle.std.proofs.Common.{◌∙◌, ◌++◌, Ok, Err, sym, ap, subst, arith, inl, inr}
 use Rattle.rip_log.specs.TimedCall.{timed_lines, timed_source, timed_text}
 use Rattle.rip_log.specs.Wholes.{rest_of}
-use Rattle.rip_log.proofs.PassLemmas.{passes_kept}
-use Rattle.rip_log.proofs.WholeLemmas.{begins_back, went_nowhere, went_on}
-use Rattle.rip_report.specs.Films.{HasShownOf, IsEnd, ShowsText, stage_of}
+use Rattle.rip_log.proofs.WholeLemmas.{begins_back, went_on}
+use Rattle.rip_report.specs.Films.{ShowsText, stage_of}
 use Rattle.rip_report.specs.Outs.{AddsOne, Progress}
 use Rattle.rip_report.specs.declared.status.RunError.TheVariants.{Memory, Read, Write}
-use Rattle.rip_report.specs.declared.status.Status.TheVariants.{Refused, Settled}
 use Rattle.rip_report.proofs.OutLemmas.{added_also}
 use Rattle.rip_report.proofs.TimedLineLemmas.{ends_at, gives_up, goes_on, goes_to_end, lacks_at, passes_more, unread_to}
 use Rattle.rip_report.proofs.WatchLemmas.{added_then}
@@ -176,7 +174,8 @@ lines-preserved g c =
           (c.lines.invariant.shown whole (begins_back S.given S.coming S.at_end whole (timed_source was) (timed_source now) h.went begins)) takes;
       passed = λ whole begins.
           let coming = rest_of S.given whole in
-          rw h.behind (passes_more (timed_text coming c.args.reader.now) (timed_text coming was) (timed_text coming now) _ (timed_lines was) (c.lines.invariant.passed whole (begins_back S.given S.coming S.at_end whole (timed_source was) (timed_source now) h.went begins)) (h.gives whole begins));
+          rw h.behind (passes_more (timed_text coming c.args.reader.now) (timed_text coming was) (timed_text coming now) _ (timed_lines was) (c.lines.invariant.passed whole
+              (begins_back S.given S.coming S.at_end whole (timed_source was) (timed_source now) h.went begins)) (h.gives whole begins));
       went = went_on S.given S.coming S.at_end (timed_source c.args.reader.now) (timed_source was) (timed_source now) c.lines.invariant.went h.went;
       stage = c.take.ensures.stage (c.in-Ok-None-take.is ∙ ap Ok c.in-Ok-None-take.field-0-is);
       marks = h.marks ∙ c.lines.invariant.marks;

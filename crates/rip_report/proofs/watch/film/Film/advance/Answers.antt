@@ -17,7 +17,8 @@ returns-then-not-settled-clause-film g c =
     let which = which_judged window count judged most in
     added_also
     (λ text film. quiet_film second judged count v c.in_ok-settled.settled c.if-not-settled.true
-    (judged_film laws.passed laws.closed laws.over laws.once n window second v c.requires.lasts count judged which c.args.watching.now.until_settled c.args.self.now.last.items c.pass_quiet.new.self.last.items text)
+    (judged_film laws.passed laws.closed laws.over laws.once n window second v c.requires.lasts count judged which c.args.watching.now.until_settled c.args.self.now.last.items
+    c.pass_quiet.new.self.last.items text)
     film)
     c.in_ok-settled.ensures.film
 

@@ -32,7 +32,8 @@ returns-then-is_end-clause-film g c =
         c.loop-test.true,
         subst (λ (j : ℕ). FilmToSettled n c.args.self.now.last.items (quiet n j c.args.self.now.second v) c.show.new.self.last.items (text ++ more)) next
             (film_settled c.args.self.now.second k v film ends.0
-            (subst (λ (s : ℕ). IsShot n s (closed_view n (after_quiet n k v)) c.loop.self.last.items (record { text = c.show.new.self.last.items; status = c.in_ok-status.status }) more) c.loop.invariant.second
+            (subst (λ (s : ℕ). IsShot n s (closed_view n (after_quiet n k v)) c.loop.self.last.items (record { text = c.show.new.self.last.items; status = c.in_ok-status.status }) more)
+            c.loop.invariant.second
             (subst (λ (u : View). IsShot n c.loop.self.second u c.loop.self.last.items (record { text = c.show.new.self.last.items; status = c.in_ok-status.status }) more) shown shot))
             ends.1),
       ),
@@ -50,7 +51,8 @@ loop-preserved g c =
       film = added_then
           (λ text more film shot. subst (λ (j : ℕ). FilmOf n c.args.until_settled c.args.self.now.last.items (quiet n j c.args.self.now.second v) c.show.new.self.last.items (text ++ more)) next
           (film_more c.args.self.now.second k v film
-          (subst (λ (s : ℕ). IsShot n s (closed_view n (after_quiet n k v)) c.loop.self.last.items (record { text = c.show.new.self.last.items; status = c.in_ok-status.status }) more) c.loop.invariant.second
+          (subst (λ (s : ℕ). IsShot n s (closed_view n (after_quiet n k v)) c.loop.self.last.items (record { text = c.show.new.self.last.items; status = c.in_ok-status.status }) more)
+          c.loop.invariant.second
           (subst (λ (u : View). IsShot n c.loop.self.second u c.loop.self.last.items (record { text = c.show.new.self.last.items; status = c.in_ok-status.status }) more) shown shot))
           (c.is_end.ensures.goes_on c.if-is_end.false)))
           c.loop.invariant.film c.in_ok-status.ensures.shot;
