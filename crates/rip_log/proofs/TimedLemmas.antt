@@ -94,6 +94,7 @@ module _ {R X Y E : Type 0} (given : R → List ℕ) (coming : R → Option (Lis
     failed = tt;
     marks = h.marks;
     behind = h.behind;
+    few = tt;
     numbered = tt;
     early = tt;
     over = λ _. h.over refl;
@@ -109,6 +110,7 @@ module _ {R X Y E : Type 0} (given : R → List ℕ) (coming : R → Option (Lis
     failed = tt;
     marks = h.marks;
     behind = h.behind;
+    few = h.few;
     numbered = numbered;
     early = subst IsEarly (sym same) h.early;
     over = λ e. cc e;

@@ -1,5 +1,5 @@
 -- What a reader of lines with times stands for, and what a call of `next` answers and leaves.
-use Rattle.std.specs.Prelude.{◌≡◌, ◌⊎◌, ◌+◌, ◌<◌, ℕ, Bool, true, false, List, [], Option, Some, None, Result, Ok, Err, IfOk, IfSome, OnErr, OnOk}
+use Rattle.std.specs.Prelude.{◌≡◌, ◌⊎◌, ◌+◌, ◌<◌, ◌≤◌, ℕ, Bool, true, false, List, [], Option, Some, None, Result, Ok, Err, IfOk, IfSome, OnErr, OnOk}
 use Rattle.std.specs.Io.KnownBytes.{Keeps}
 use Rattle.rip_wire.specs.Datagram.{datagram_bytes}
 use Rattle.rip_log.specs.Cuts.{FirstLine, HasLine, IsEndless}
@@ -108,6 +108,7 @@ pub record TimedCall {R X E : Type 0} (given : R → List ℕ) (coming : R → O
   -- every other outcome leaves the source's mark of failure
   pub marks : OnOk result (broken (timed_source new) ≡ broken (timed_source old))
   pub behind : OnOk result (timed_lines new ≡ timed_lines old + timed_taken result)
+  pub few : IfOk result (λ found. IfSome found (λ x. timed_lines new ≤ MOST_LINE_NUMBER))
   -- a line that is not skipped has the number of the last line behind the reader
   pub numbered : IfOk result (λ found. IfSome found (λ x. IfSome (number x) (λ n.
       n ≡ timed_lines new)))

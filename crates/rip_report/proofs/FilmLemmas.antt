@@ -1,5 +1,5 @@
 -- How far a film has come.
-use Rattle.std.proofs.Common.{◌≡◌, ◌≢◌, ◌∙◌, ◌+◌, ◌-◌, ◌<◌, ◌≤◌, ◌++◌, nat_lt, [], ◌∷◌, ℕ, zero, suc, Bool, true, false, cond, List, Option, Some, None, Result, Ok, Err, IfOk, refl, sym, ap, subst, append_assoc, append-nil, arith}
+use Rattle.std.proofs.Common.{◌≡◌, ◌≢◌, ◌∙◌, ◌+◌, ◌-◌, ◌<◌, ◌≤◌, ◌++◌, nat_lt, [], ◌∷◌, ℕ, zero, suc, Bool, true, false, cond, List, Option, Some, None, Result, Ok, Err, IfOk, IfSome, inl, refl, sym, ap, subst, append_assoc, append-nil, arith}
 use Rattle.std.proofs.lemmas.Bool.{ltb-true}
 use Rattle.std.specs.Prelude.{OnErr}
 use Rattle.std.specs.declared.alloc.AllocError.{AllocError}
@@ -13,7 +13,7 @@ use Rattle.rip_plan.specs.Network.{Network}
 use Rattle.rip_table.specs.Scenes.{View, after_line, after_said, closed_view, new_view}
 use Rattle.rip_table.specs.Seconds.{after_quiet, from_first, later_second, log_seconds, own_second, quiet, seconds_of}
 use Rattle.rip_table.specs.declared.scene.LineCause.TheVariants.{Log}
-use Rattle.rip_report.specs.Films.{EndsFilm, HasShown, IsNotTimed, LineBegun, QuietFilm, Stage, TakesLine, line_second, seconds_before, with_line}
+use Rattle.rip_report.specs.Films.{EndsFilm, HasShown, IsEnd, IsNotTimed, LineBegun, QuietFilm, Stage, TakesLine, line_second, seconds_before, with_line}
 use Rattle.rip_report.specs.Outs.{AddsOne, Progress}
 use Rattle.rip_report.specs.RefusalText.{refusal_line}
 use Rattle.rip_report.specs.WatchText.{AreNotSettled, FilmOf, FilmToSettled, IsShot, Shots, Watched, WatchedFront}
@@ -60,24 +60,29 @@ quiet_front n k count second v few =
     let whole : count ≡ k + (count - k) = omega (arith, few) in
     ap (λ (m : ℕ). quiet n m second v) whole ∙ quiet_less n k (count - k) second v
 
--- those of a log, where the first of its seconds, and then so many quiet ones, are before the others
-module _ {n : Network} {window second : ℕ} {v : View} {all to_come : List LineSaid} {before : List (ℕ × View)} (line : TimedLine)
-    (is : log_seconds n window all ≡ before ++ seconds_of n window second v (with_line line to_come)) where
-  abbrev count : ℕ
-  count = seconds_before second line
+-- those of a log, where the first of its seconds, and then the quiet ones before a line, are before the others
+passed : (n : Network) (window second : ℕ) (v : View) (all to_come : List LineSaid) (before : List (ℕ × View)) (line : TimedLine)
+    → log_seconds n window all ≡ before ++ seconds_of n window second v (with_line line to_come) →
+    let count = seconds_before second line in
+    log_seconds n window all ≡ (before ++ quiet n count second v) ++ seconds_of n window (second + count) (after_line n window line (after_quiet n count v)) to_come
+passed n window second v all to_come before line is =
+    let count = seconds_before second line in
+    let behind = seconds_of n window (second + count) (after_line n window line (after_quiet n count v)) to_come in
+    is ∙ ap (λ (xs : List (ℕ × View)). before ++ xs) (line_seconds n window second v line to_come) ∙ sym (append_assoc before (quiet n count second v) behind)
 
-  abbrev behind : List (ℕ × View)
-  behind = seconds_of n window (second + count) (after_line n window line (after_quiet n count v)) to_come
-
-  passed : log_seconds n window all ≡ (before ++ quiet n count second v) ++ behind
-  passed = is ∙ ap (λ (xs : List (ℕ × View)). before ++ xs) (line_seconds n window second v line to_come) ∙ sym (append_assoc before (quiet n count second v) behind)
-
-  stopped : (k : ℕ) → k ≤ count → log_seconds n window all ≡ (before ++ quiet n k second v) ++ (quiet n (count - k) (second + k) (after_quiet n k v) ++ behind)
-  stopped k few =
-      let front = quiet n k second v in
-      let rest = quiet n (count - k) (second + k) (after_quiet n k v) in
-      passed ∙ ap (λ (xs : List (ℕ × View)). (before ++ xs) ++ behind) (quiet_front n k count second v few)
-      ∙ ap (λ (xs : List (ℕ × View)). xs ++ behind) (sym (append_assoc before front rest)) ∙ append_assoc (before ++ front) rest behind
+-- and where the first of these are
+stopped : (n : Network) (window second : ℕ) (v : View) (all to_come : List LineSaid) (before : List (ℕ × View)) (line : TimedLine) (k : ℕ)
+    → log_seconds n window all ≡ before ++ seconds_of n window second v (with_line line to_come) → k ≤ seconds_before second line
+    → (after : List (ℕ × View)) × (log_seconds n window all ≡ (before ++ quiet n k second v) ++ after)
+stopped n window second v all to_come before line k is few =
+    let count = seconds_before second line in
+    let behind = seconds_of n window (second + count) (after_line n window line (after_quiet n count v)) to_come in
+    let front = quiet n k second v in
+    let rest = quiet n (count - k) (second + k) (after_quiet n k v) in (
+      rest ++ behind,
+      passed n window second v all to_come before line is ∙ ap (λ (xs : List (ℕ × View)). (before ++ xs) ++ behind) (quiet_front n k count second v few)
+          ∙ ap (λ (xs : List (ℕ × View)). xs ++ behind) (sym (append_assoc before front rest)) ∙ append_assoc (before ++ front) rest behind,
+    )
 
 -- ---- a film, one part after the other
 
@@ -106,7 +111,7 @@ module _ {n : Network} {window : ℕ} {until : Bool} {old : Stage} (line : Timed
           ≡ seconds_of n window new.second new.view to_come = ap (λ (s : ℕ). seconds_of n window s (after_line n window line (after_quiet n (seconds_before old.second line) old.view)) to_come) (sym second)
           ∙ ap (λ (u : View). seconds_of n window new.second u to_come) (sym view) in
       let front = before ++ quiet n (seconds_before old.second line) old.second old.view in
-      HasShown.seconds front begins (passed line seconds ∙ ap (λ (xs : List (ℕ × View)). front ++ xs) here) (films_then shown film)
+      HasShown.seconds front begins (passed n window old.second old.view all to_come before line seconds ∙ ap (λ (xs : List (ℕ × View)). front ++ xs) here) (films_then shown film)
 
   -- or a settled second before the line ends it
   pub shown_settled : (ended more : List ℕ) → QuietFilm n until old.last old.second old.view (seconds_before old.second line) true ended more
@@ -116,7 +121,8 @@ module _ {n : Network} {window : ℕ} {until : Bool} {old : Stage} (line : Timed
   shown_settled ended more (is, (k, lt, settled)) all to_come text (HasShown.seconds before has seconds shown) =
       let count = seconds_before old.second line in
       let few : k + 1 ≤ count = omega (arith, lt) in
-      Watched.to_settled (text ++ more) ended (before ++ quiet n (k + 1) old.second old.view) _ is (stopped line seconds (k + 1) few) (settled_then is shown settled)
+      let split = stopped n window old.second old.view all to_come before line (k + 1) seconds few in
+      Watched.to_settled (text ++ more) ended (before ++ quiet n (k + 1) old.second old.view) split.0 is split.1 (settled_then is shown settled)
 
   -- or memory lacks
   pub shown_begun : (more : List ℕ) → LineBegun n until old.last old.second old.view (seconds_before old.second line) more
@@ -125,7 +131,8 @@ module _ {n : Network} {window : ℕ} {until : Bool} {old : Stage} (line : Timed
   shown_begun more (k, lt, (ended, film)) all to_come text (HasShown.seconds before has seconds shown) =
       let count = seconds_before old.second line in
       let few : k ≤ count = omega (arith, lt) in
-      WatchedFront.seconds ended (before ++ quiet n k old.second old.view) _ (stopped line seconds k few) (films_then shown film)
+      let split = stopped n window old.second old.view all to_come before line k seconds few in
+      WatchedFront.seconds ended (before ++ quiet n k old.second old.view) split.0 split.1 (films_then shown film)
 
 -- ---- the first line
 
@@ -206,36 +213,40 @@ shown_front {n = n} {window = window} {until = until} old all to_come text (HasS
 -- ---- what taking in a line adds
 
 -- a first line that begins a film is taken in as each further one
-pub first_takes : (n : Network) (window : ℕ) (until : Bool) (line : TimedLine) (old begun : Stage) {new : Stage} {before after : Progress} (result : Result (Option Status) AllocError)
+pub first_takes : (n : Network) (window : ℕ) (until : Bool) (line : TimedLine) (old begun new : Stage) (before after : Progress) (result : Result (Option Status) AllocError)
     → old.begun ≡ false → line_second line ≡ Some begun.second → begun.begun ≡ true → begun.last ≡ old.last → begun.view ≡ old.view
     → TakesLine n window until line begun new before after result → TakesLine n window until line old new before after result
-first_takes n window until line old begun (Ok None) was own begins last view takes =
+first_takes n window until line old begun new before after (Ok None) was own begins last view takes =
     added_also (λ more goes_on all to_come text shown. goes_on all to_come text (shown_first old begun was line own begins last view all to_come text shown)) takes
-first_takes n window until line old begun (Ok (Some status)) was own begins last view takes =
+first_takes n window until line old begun new before after (Ok (Some status)) was own begins last view takes =
     added_also (λ more ends all to_come text shown. ends all to_come text (shown_first old begun was line own begins last view all to_come text shown)) takes
-first_takes n window until line old begun (Err e) was own begins last view takes =
+first_takes n window until line old begun new before after (Err e) was own begins last view takes =
     added_also (λ more lacks all to_come text shown. lacks all to_come text (shown_first old begun was line own begins last view all to_come text shown)) takes
 
 -- a first line without a time is refused or skipped
-pub takes_untimed : {n : Network} {window : ℕ} {until : Bool} {line : TimedLine} {old : Stage} {before after : Progress} (result : Option Status) → old.begun ≡ false
+pub takes_untimed : (n : Network) (window : ℕ) (until : Bool) (line : TimedLine) (old : Stage) (before after : Progress) (result : Option Status) → old.begun ≡ false
     → IsNotTimed line before after result → TakesLine n window until line old old before after (Ok result)
-takes_untimed {n = n} {window = window} {until = until} {line = line} {old = old} {before = before} None was (skipped, same) =
-    rw same (adds_nothing (λ all to_come text shown.
+takes_untimed n window until line old before after None was (skipped, same) =
+    subst (λ (p : Progress). TakesLine n window until line old old before p (Ok None)) (sym same) (adds_nothing (λ all to_come text shown.
     shown_skipped old all to_come text (subst (λ (l : TimedLine). HasShown n window until old all (with_line l to_come) text) skipped shown)))
-takes_untimed {n = n} {window = window} {until = until} {line = line} {old = old} (Some status) was (fault, is, none, refused, adds) =
+takes_untimed n window until line old before after (Some status) was (fault, is, none, refused, adds) =
     adds_one (λ all to_come text shown.
     subst (λ (s : Status). Watched n window until all (record { text = text ++ refusal_line fault.line (Log fault.code); status = s })) (sym refused)
     (shown_untimed old fault was none all to_come text (subst (λ (l : TimedLine). HasShown n window until old all (with_line l to_come) text) is shown))) adds
 
+pub untimed_ends : (until : Bool) (line : TimedLine) (before after : Progress) (result : Option Status) → IsNotTimed line before after result → IfSome result (IsEnd until)
+untimed_ends until line before after None h = tt
+untimed_ends until line before after (Some status) (fault, is, none, refused, adds) = inl refused
+
 -- ---- what the end adds
 
-pub ends_film : {n : Network} {window : ℕ} {until : Bool} {old : Stage} {before after : Progress} {last : List ℕ} {v : View} (result : Result Status AllocError) → old.begun ≡ true → v ≡ closed_view n old.view
-    → IfOk result (λ status. AddsOne before after (IsShot n old.second v old.last (record { text = last; status = status }))) → OnErr result (after ≡ before)
+pub ends_film : (n : Network) (window : ℕ) (until : Bool) (old : Stage) (before after : Progress) (last : List ℕ) (v : View) (result : Result Status AllocError) → old.begun ≡ true
+    → v ≡ closed_view n old.view → IfOk result (λ status. AddsOne before after (IsShot n old.second v old.last (record { text = last; status = status }))) → OnErr result (after ≡ before)
     → EndsFilm n window until old before after result
-ends_film {n = n} {old = old} {last = last} (Ok status) begun view shot nothing =
+ends_film n window until old before after last v (Ok status) begun view shot nothing =
     let w : Written = record { text = last; status = status } in
     added_also (λ more shot. shown_last old more w begun (subst (λ (u : View). IsShot n old.second u old.last w more) view shot)) shot
-ends_film (Err e) begun view shot nothing = nothing
+ends_film n window until old before after last v (Err e) begun view shot nothing = nothing
 
-pub ends_nothing : {n : Network} {window : ℕ} {until : Bool} {old : Stage} {before : Progress} → old.begun ≡ false → EndsFilm n window until old before before (Ok Unclear)
-ends_nothing {old = old} was = adds_nothing (λ all text shown. shown_nothing old was all text shown)
+pub ends_nothing : (n : Network) (window : ℕ) (until : Bool) (old : Stage) (before : Progress) → old.begun ≡ false → EndsFilm n window until old before before (Ok Unclear)
+ends_nothing n window until old before was = adds_nothing (λ all text shown. shown_nothing old was all text shown)

@@ -7,6 +7,7 @@ pub mod WatchLemmas
 pub mod FilmLemmas
 pub mod TimedLineLemmas
 pub mod RightSecondLemmas
+pub mod WatchRunLemmas
 pub mod EndLemmas
 pub mod ReportLemmas
 pub mod StopLemmas

@@ -21,7 +21,7 @@ use Rattle.rip_report.specs.RefusalText.{refusal_line}
 use Rattle.rip_report.specs.WatchText.{FilmOf, FilmToSettled, Watched, WatchedFront}
 use Rattle.rip_report.specs.declared.status.RunError.{RunError}
 use Rattle.rip_report.specs.declared.status.Status.{Status}
-use Rattle.rip_report.specs.declared.status.Status.TheVariants.{Refused}
+use Rattle.rip_report.specs.declared.status.Status.TheVariants.{Refused, Settled}
 use Rattle.rip_report.specs.declared.watch.Watch.{Watch}
 
 -- ---- seconds in which no line comes
@@ -130,6 +130,11 @@ TakesLine n window until line old new before after (Err e) = AddsOne before afte
     (all to_come : List LineSaid) (text : List ℕ)
     → HasShown n window until old all (with_line line to_come) text
     → WatchedFront n window until all (text ++ more))
+
+-- a status ends a film before its last line: that of a first line without a time, or of a settled
+-- second that ends it
+abbrev pub IsEnd : Bool → Status → Type 0
+IsEnd until status = (status ≡ Refused) ⊎ ((until ≡ true) × (status ≡ Settled))
 
 -- What the last second adds, whatever was printed before, or that memory lacks.
 abbrev pub EndsFilm : Network → ℕ → Bool → Stage → Progress → Progress → Result Status AllocError

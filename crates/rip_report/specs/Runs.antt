@@ -24,7 +24,7 @@ use Rattle.rip_report.specs.Written.{Written}
 use Rattle.rip_report.specs.declared.status.Status.{Status}
 use Rattle.rip_report.specs.declared.status.Status.TheVariants.{Refused, Settled}
 use Rattle.rip_report.specs.declared.status.RunError.{RunError}
-use Rattle.rip_report.specs.declared.status.RunError.TheVariants.{Memory, Read}
+use Rattle.rip_report.specs.declared.status.RunError.TheVariants.{Memory, Read, Write}
 
 -- what a run leaves of its source
 pub record Draws {R : Type 0} (given : R → List ℕ) (coming : R → Option (List ℕ))
@@ -129,15 +129,20 @@ pub record RunsToEnd {R K : Type 0} (source : SourceOf R) (sink : SinkOf K)
   pub refuses : RefusesPlan plan log run.0 run.2
 
 -- what a run leaves of the source of a log with times
-pub record DrawsTimes {R : Type 0} (source : SourceOf R) (until : Bool) (log new : R)
+pub record DrawsTimes {R : Type 0} (from : SourceOf R) (until : Bool) (log new : R)
     (result : Result Status RunError) : Type 0 where
-  pub draws : Draws source.given source.coming source.broken source.at_end log new result
+  -- the bytes given, perhaps none, are the first of those to come, where these are modelled
+  pub went : Went from.given from.coming from.at_end log new
+  pub to_come : (text : List ℕ) → from.coming log ≡ Some text →
+      IsGiven from.given from.at_end log new text
+  -- every answer but Read and Write leaves the source's mark as it was
+  pub source : result ≢ Err Read → result ≢ Err Write → from.broken new ≡ from.broken log
   -- Read only where the source has failed, or a line or the number of lines has no end
-  pub read : (text : List ℕ) → IsGiven source.given source.at_end log new text →
-      result ≡ Err Read → IsUnreadTo (source.broken new) (Some text)
+  pub read : (text : List ℕ) → IsGiven from.given from.at_end log new text →
+      result ≡ Err Read → IsUnreadTo (from.broken new) (Some text)
   -- it ends before the source does only by a refusal, or where a settled second ends it
   pub ended : IfOk result (λ status. (until ≡ true → status ≢ Settled) → status ≢ Refused →
-      source.at_end new ≡ true)
+      from.at_end new ≡ true)
 
 -- a run on a log with times by a plan
 pub record Watches {R K : Type 0} (source : SourceOf R) (sink : SinkOf K) (window : ℕ)

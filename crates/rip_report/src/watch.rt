@@ -2,7 +2,7 @@
 
 mod film;
 
-ghost use Rattle.std.specs.Prelude.{◌≡◌, ◌≢◌, ◌↔◌, ◌≤◌, ℕ, Bool, List, [], IfOk, None, Ok, Err, Some, false, true};
+ghost use Rattle.std.specs.Prelude.{◌≡◌, ◌≢◌, ◌↔◌, ◌≤◌, ℕ, Bool, List, [], IfOk, IfSome, None, Ok, Err, Some, false, true};
 ghost use Rattle.rip_log.specs.TimedCall.{timed_lines, timed_said_of, timed_source, timed_text};
 ghost use Rattle.rip_log.specs.TimedText.{IsEarly, LineSaid, TextSays};
 ghost use Rattle.rip_log.specs.Wholes.{OfWhole, Went};
@@ -11,7 +11,7 @@ ghost use Rattle.rip_plan.specs.Network.{Network};
 ghost use Rattle.rip_plan.specs.PlanOf.{IsPlanOfText};
 ghost use Rattle.rip_table.specs.State.{Fits, State};
 ghost use Rattle.rip_table.specs.Window.{new_window, shown};
-ghost use Rattle.rip_report.specs.Films.{EndsFilm, IsNew, IsNotTimed, IsStage, IsUnreadTo, ShowsText, TakesLine, line_second, stage_of};
+ghost use Rattle.rip_report.specs.Films.{EndsFilm, IsEnd, IsNew, IsNotTimed, IsStage, IsUnreadTo, ShowsText, TakesLine, line_second, stage_of};
 ghost use Rattle.rip_report.specs.Given.{IsGiven};
 ghost use Rattle.rip_report.specs.Outs.{AddsOne, HasGoneOut};
 ghost use Rattle.rip_report.specs.ReportText.{IsAccepted};
@@ -95,6 +95,7 @@ impl<T: WindowTable> Watch<T> {
             (stage_of T.window self.old) (stage_of T.window self.new) out.old out.new result }
         ensures stage { result ≡ Ok None →
             IsStage plan.now watching.now.length (stage_of T.window self.new) }
+        ensures ends { IfOk result (λ end. IfSome end (IsEnd watching.now.until_settled)) }
         ensures sent { HasGoneOut out.old → HasGoneOut out.new }
     {
         match self.film.take(alloc, plan, watching, line, out) {
@@ -120,6 +121,7 @@ impl<T: WindowTable> Watch<T> {
             (stage_of T.window self.old) (stage_of T.window self.new) out.old out.new result }
         ensures stage { result ≡ Ok None →
             IsStage plan.now watching.now.length (stage_of T.window self.new) }
+        ensures ends { IfOk result (λ end. IfSome end (IsEnd watching.now.until_settled)) }
         ensures sent { result ≡ Ok None → HasGoneOut out.old → HasGoneOut out.new }
     {
         match second_of(line) {
@@ -149,6 +151,7 @@ impl<T: WindowTable> Watch<T> {
             (stage_of T.window self.old) (stage_of T.window self.new) out.old out.new result }
         ensures stage { result ≡ Ok None →
             IsStage plan.now watching.now.length (stage_of T.window self.new) }
+        ensures ends { IfOk result (λ end. IfSome end (IsEnd watching.now.until_settled)) }
         ensures sent { result ≡ Ok None → HasGoneOut out.old → HasGoneOut out.new }
     {
         if self.begun {
@@ -205,6 +208,7 @@ fn watch_lines<R: Source, T: WindowTable, K: Sink>(
     ensures ended { IfOk result (λ status. (watching.now.until_settled ≡ true → status ≢ Status.Settled)
         → status ≢ Status.Refused → R.at_end (timed_source reader.new) ≡ true) }
 {
+    timed_texts();
     'lines: loop {
         match reader.next() {
             Err(Failed) => return Err(RunError::Read),

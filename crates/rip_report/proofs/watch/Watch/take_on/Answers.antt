@@ -1,4 +1,4 @@
-use Rattle.std.proofs.Common.{Ok, ap}
+use Rattle.std.proofs.Common.{Ok, ap, inr, refl}
 use Rattle.rip_report.specs.Films.{stage_of}
 use Rattle.rip_report.proofs.FilmLemmas.{shown_begun, shown_on, shown_settled}
 use Rattle.rip_report.proofs.OutLemmas.{added_also}
@@ -20,3 +20,8 @@ returns-in-Ok-false-clause-takes g c =
 
 pub returns-in-Err-clause-takes : goal.returns-in-Err-clause-takes
 returns-in-Err-clause-takes g c = added_also (λ more. shown_begun c.args.line.now c.requires.begun more) c.in-Err.ensures.begun
+
+pub returns-in-Ok-true-clause-ends : goal.returns-in-Ok-true-clause-ends
+returns-in-Ok-true-clause-ends g c =
+    let film = rw c.in-Ok-true.field-0-test at c.in-Ok-true.ensures.film in
+    inr (film.is_text.0, refl)

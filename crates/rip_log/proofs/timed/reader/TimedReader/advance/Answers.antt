@@ -17,6 +17,7 @@ returns-in-Err-take_line-clause-call g c =
           unread-kept _ _ _ (c.has_line.ensures.text whole before) (c.in-Err-take_line.ensures.failed whole begins);
       marks = tt;
       behind = tt;
+      few = tt;
       numbered = tt;
       early = tt;
       over = λ e. cc e;
@@ -38,6 +39,7 @@ returns-in-Ok-clause-call g c =
       failed = tt;
       marks = search rules;
       behind = search rules;
+      few = search rules;
       numbered = refl;
       early = c.in-Ok.ensures.early;
       over = λ e. cc e;

@@ -1,0 +1,190 @@
+use Rattle.std.proofs.Common.{◌≡◌, ◌∙◌, ◌+◌, ◌++◌, ℕ, List, Option, None, Some, Ok, Err, true, refl, sym, ap, subst, arith, inl, inr, rules}
+use Rattle.rip_log.specs.TimedCall.{timed_lines, timed_source, timed_text}
+use Rattle.rip_log.specs.Wholes.{rest_of}
+use Rattle.rip_log.proofs.PassLemmas.{passes_kept}
+use Rattle.rip_log.proofs.WholeLemmas.{begins_back, went_nowhere, went_on}
+use Rattle.rip_report.specs.Films.{HasShownOf, IsEnd, ShowsText, stage_of}
+use Rattle.rip_report.specs.Outs.{AddsOne, Progress}
+use Rattle.rip_report.specs.declared.status.RunError.TheVariants.{Memory, Read, Write}
+use Rattle.rip_report.specs.declared.status.Status.TheVariants.{Refused, Settled}
+use Rattle.rip_report.proofs.OutLemmas.{added_also}
+use Rattle.rip_report.proofs.TimedLineLemmas.{ends_at, gives_up, goes_on, goes_to_end, lacks_at, passes_more, unread_to}
+use Rattle.rip_report.proofs.WatchLemmas.{added_then}
+use Rattle.rip_report.proofs.watch.watch_lines.Goals as goal
+
+pub returns-in-Err-clause-shows : goal.returns-in-Err-clause-shows
+returns-in-Err-clause-shows g c = λ whole begins.
+    let S = g.R.Source in
+    let coming = rest_of S.given whole in
+    let was = c.lines.reader in
+    let h = rw c.in-Err.is at c.next.follows.holds-at-none in
+    let before = begins_back S.given S.coming S.at_end whole (timed_source was) (timed_source c.next.follows.lender-at-none) h.went begins in
+    added_also
+    (λ printed shown. gives_up c.timed_texts.ensures.exists c.args.plan.now c.args.watching.now.length c.args.watching.now.until_settled (timed_text coming c.args.reader.now) (timed_text coming was)
+    (timed_lines was) (stage_of g.T.WindowTable.window c.lines.watch) printed shown Read)
+    (c.lines.invariant.shown whole before)
+
+pub returns-in-Err-clause-read : goal.returns-in-Err-clause-read
+returns-in-Err-clause-read g c = λ is whole begins.
+    let S = g.R.Source in
+    let coming = rest_of S.given whole in
+    let was = c.lines.reader in
+    let now = c.next.follows.lender-at-none in
+    let h = rw c.in-Err.is at c.next.follows.holds-at-none in
+    let before = begins_back S.given S.coming S.at_end whole (timed_source was) (timed_source now) h.went begins in
+    unread_to (S.broken (timed_source now)) (timed_text coming c.args.reader.now) (timed_text coming was) (timed_lines was) (c.lines.invariant.passed whole before) (h.failed whole begins)
+
+pub returns-in-Ok-clause-shows : goal.returns-in-Ok-clause-shows
+returns-in-Ok-clause-shows g c = λ whole begins.
+    let S = g.R.Source in
+    let coming = rest_of S.given whole in
+    let was = c.lines.reader in
+    let now = c.next.follows.lender-at-none in
+    let watching = c.args.watching.now in
+    let h = rw (c.in-Ok-None.is, c.in-Ok-None.field-0-is) at c.next.follows.holds-at-none in
+    let before = begins_back S.given S.coming S.at_end whole (timed_source was) (timed_source now) h.went begins in
+    let gives = h.gives whole begins in
+    let ends = rw c.in-Ok.is at c.end.ensures watching.length watching.until_settled in
+    added_then
+    (λ printed more shown last. goes_to_end c.timed_texts.ensures.exists c.args.plan.now watching.length watching.until_settled (timed_text coming c.args.reader.now) (timed_text coming was)
+    (timed_lines was) (stage_of g.T.WindowTable.window c.lines.watch) printed shown (timed_text coming now) gives.0 gives.1 c.in-Ok.status more last)
+    (c.lines.invariant.shown whole before) ends
+
+pub returns-in-Ok-clause-went : goal.returns-in-Ok-clause-went
+returns-in-Ok-clause-went g c =
+    let S = g.R.Source in
+    let h = rw (c.in-Ok-None.is, c.in-Ok-None.field-0-is) at c.next.follows.holds-at-none in
+    went_on S.given S.coming S.at_end (timed_source c.args.reader.now) (timed_source c.lines.reader) (timed_source c.next.follows.lender-at-none) c.lines.invariant.went h.went
+
+pub returns-in-Err-end-clause-shows : goal.returns-in-Err-end-clause-shows
+returns-in-Err-end-clause-shows g c = λ whole begins.
+    let S = g.R.Source in
+    let coming = rest_of S.given whole in
+    let was = c.lines.reader in
+    let watching = c.args.watching.now in
+    let h = rw (c.in-Ok-None.is, c.in-Ok-None.field-0-is) at c.next.follows.holds-at-none in
+    let before = begins_back S.given S.coming S.at_end whole (timed_source was) (timed_source c.next.follows.lender-at-none) h.went begins in
+    let same = rw c.in-Err-end.is at c.end.ensures watching.length watching.until_settled in
+    let text = timed_text coming c.args.reader.now in
+    subst (λ (p : Progress). AddsOne c.args.out.now p (ShowsText c.args.plan.now watching.length watching.until_settled text (Err Memory))) (sym same)
+    (added_also
+    (λ printed shown. gives_up c.timed_texts.ensures.exists c.args.plan.now watching.length watching.until_settled text (timed_text coming was) (timed_lines was)
+    (stage_of g.T.WindowTable.window c.lines.watch) printed shown Memory)
+    (c.lines.invariant.shown whole before))
+
+pub returns-in-Err-end-clause-went : goal.returns-in-Err-end-clause-went
+returns-in-Err-end-clause-went g c =
+    let S = g.R.Source in
+    let h = rw (c.in-Ok-None.is, c.in-Ok-None.field-0-is) at c.next.follows.holds-at-none in
+    went_on S.given S.coming S.at_end (timed_source c.args.reader.now) (timed_source c.lines.reader) (timed_source c.next.follows.lender-at-none) c.lines.invariant.went h.went
+
+pub returns-in-Ok-Some-take-clause-shows : goal.returns-in-Ok-Some-take-clause-shows
+returns-in-Ok-Some-take-clause-shows g c = λ whole begins.
+    let S = g.R.Source in
+    let coming = rest_of S.given whole in
+    let was = c.lines.reader in
+    let now = c.next.follows.lender-at-none in
+    let watching = c.args.watching.now in
+    let h = rw (c.in-Ok-Some.is, c.in-Ok-Some.field-0-is) at c.next.follows.holds-at-none in
+    let before = begins_back S.given S.coming S.at_end whole (timed_source was) (timed_source now) h.went begins in
+    let takes = rw (c.in-Ok-Some-take.is, c.in-Ok-Some-take.field-0-is) at c.take.ensures.takes in
+    added_then
+    (λ printed more shown ends. ends_at c.timed_texts.ensures.exists c.args.plan.now watching.length watching.until_settled (timed_text coming c.args.reader.now) (timed_text coming was)
+    (timed_lines was) (stage_of g.T.WindowTable.window c.lines.watch) printed shown (timed_text coming now) (timed_lines now) c.in-Ok-Some.line h.behind (h.gives whole begins) h.numbered
+    c.in-Ok-Some-take.status more ends)
+    (c.lines.invariant.shown whole before) takes
+
+pub returns-in-Ok-Some-take-clause-went : goal.returns-in-Ok-Some-take-clause-went
+returns-in-Ok-Some-take-clause-went g c =
+    let S = g.R.Source in
+    let h = rw (c.in-Ok-Some.is, c.in-Ok-Some.field-0-is) at c.next.follows.holds-at-none in
+    went_on S.given S.coming S.at_end (timed_source c.args.reader.now) (timed_source c.lines.reader) (timed_source c.next.follows.lender-at-none) c.lines.invariant.went h.went
+
+pub returns-in-Ok-Some-take-clause-ended : goal.returns-in-Ok-Some-take-clause-ended
+returns-in-Ok-Some-take-clause-ended g c = λ not_settled not_refused.
+    let ends = rw (c.in-Ok-Some-take.is, c.in-Ok-Some-take.field-0-is) at c.take.ensures.ends in
+    elim ends [
+      | inl refused ↦ absurd (not_refused refused)
+      | inr settled ↦ absurd (not_settled settled.0 settled.1)
+    ]
+
+pub returns-in-Err-take-clause-shows : goal.returns-in-Err-take-clause-shows
+returns-in-Err-take-clause-shows g c = λ whole begins.
+    let S = g.R.Source in
+    let coming = rest_of S.given whole in
+    let was = c.lines.reader in
+    let now = c.next.follows.lender-at-none in
+    let watching = c.args.watching.now in
+    let h = rw (c.in-Ok-Some.is, c.in-Ok-Some.field-0-is) at c.next.follows.holds-at-none in
+    let before = begins_back S.given S.coming S.at_end whole (timed_source was) (timed_source now) h.went begins in
+    let takes = rw c.in-Err-take.is at c.take.ensures.takes in
+    added_then
+    (λ printed more shown lacks. lacks_at c.timed_texts.ensures.exists c.args.plan.now watching.length watching.until_settled (timed_text coming c.args.reader.now) (timed_text coming was)
+    (timed_lines was) (stage_of g.T.WindowTable.window c.lines.watch) printed shown (timed_text coming now) (timed_lines now) c.in-Ok-Some.line h.behind (h.gives whole begins) h.numbered
+    Memory more lacks)
+    (c.lines.invariant.shown whole before) takes
+
+pub returns-in-Err-take-clause-went : goal.returns-in-Err-take-clause-went
+returns-in-Err-take-clause-went g c =
+    let S = g.R.Source in
+    let h = rw (c.in-Ok-Some.is, c.in-Ok-Some.field-0-is) at c.next.follows.holds-at-none in
+    went_on S.given S.coming S.at_end (timed_source c.args.reader.now) (timed_source c.lines.reader) (timed_source c.next.follows.lender-at-none) c.lines.invariant.went h.went
+
+pub returns-then-has_failed-clause-shows : goal.returns-then-has_failed-clause-shows
+returns-then-has_failed-clause-shows g c = λ whole begins.
+    let S = g.R.Source in
+    let coming = rest_of S.given whole in
+    let was = c.lines.reader in
+    let now = c.next.follows.lender-at-none in
+    let watching = c.args.watching.now in
+    let text = timed_text coming c.args.reader.now in
+    let old = stage_of g.T.WindowTable.window c.lines.watch in
+    let new = stage_of g.T.WindowTable.window c.take.new.self in
+    let exists = c.timed_texts.ensures.exists in
+    let h = rw (c.in-Ok-Some.is, c.in-Ok-Some.field-0-is) at c.next.follows.holds-at-none in
+    let before = begins_back S.given S.coming S.at_end whole (timed_source was) (timed_source now) h.went begins in
+    let takes = rw (c.in-Ok-None-take.is, c.in-Ok-None-take.field-0-is) at c.take.ensures.takes in
+    added_then
+    (λ printed more shown goes. gives_up exists c.args.plan.now watching.length watching.until_settled text (timed_text coming now) (timed_lines now) new (printed ++ more)
+    (goes_on exists c.args.plan.now watching.length watching.until_settled text (timed_text coming was) (timed_lines was) old printed shown (timed_text coming now) (timed_lines now)
+    c.in-Ok-Some.line h.behind (h.gives whole begins) h.numbered new more goes)
+    Write)
+    (c.lines.invariant.shown whole before) takes
+
+pub returns-then-has_failed-clause-went : goal.returns-then-has_failed-clause-went
+returns-then-has_failed-clause-went g c =
+    let S = g.R.Source in
+    let h = rw (c.in-Ok-Some.is, c.in-Ok-Some.field-0-is) at c.next.follows.holds-at-none in
+    went_on S.given S.coming S.at_end (timed_source c.args.reader.now) (timed_source c.lines.reader) (timed_source c.next.follows.lender-at-none) c.lines.invariant.went h.went
+
+pub lines-preserved : goal.lines-preserved
+lines-preserved g c =
+    let S = g.R.Source in
+    let was = c.lines.reader in
+    let now = c.next.follows.lender-at-none in
+    let watching = c.args.watching.now in
+    let old = stage_of g.T.WindowTable.window c.lines.watch in
+    let new = stage_of g.T.WindowTable.window c.take.new.self in
+    let h = rw (c.in-Ok-Some.is, c.in-Ok-Some.field-0-is) at c.next.follows.holds-at-none in
+    let takes = rw (c.in-Ok-None-take.is, c.in-Ok-None-take.field-0-is) at c.take.ensures.takes in
+    record {
+      shown = λ whole begins.
+          let coming = rest_of S.given whole in
+          added_then
+          (λ printed more shown goes. goes_on c.timed_texts.ensures.exists c.args.plan.now watching.length watching.until_settled (timed_text coming c.args.reader.now) (timed_text coming was)
+          (timed_lines was) old printed shown (timed_text coming now) (timed_lines now) c.in-Ok-Some.line h.behind (h.gives whole begins) h.numbered new more goes)
+          (c.lines.invariant.shown whole (begins_back S.given S.coming S.at_end whole (timed_source was) (timed_source now) h.went begins)) takes;
+      passed = λ whole begins.
+          let coming = rest_of S.given whole in
+          rw h.behind (passes_more (timed_text coming c.args.reader.now) (timed_text coming was) (timed_text coming now) _ (timed_lines was) (c.lines.invariant.passed whole (begins_back S.given S.coming S.at_end whole (timed_source was) (timed_source now) h.went begins)) (h.gives whole begins));
+      went = went_on S.given S.coming S.at_end (timed_source c.args.reader.now) (timed_source was) (timed_source now) c.lines.invariant.went h.went;
+      stage = c.take.ensures.stage (c.in-Ok-None-take.is ∙ ap Ok c.in-Ok-None-take.field-0-is);
+      marks = h.marks ∙ c.lines.invariant.marks;
+    }
+
+pub lines-smaller : goal.lines-smaller
+lines-smaller g c =
+    let h = rw (c.in-Ok-Some.is, c.in-Ok-Some.field-0-is) at c.next.follows.holds-at-none in
+    let next = h.behind in
+    let few = h.few in
+    omega (arith, next, few)
