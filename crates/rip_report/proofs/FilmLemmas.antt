@@ -108,7 +108,7 @@ module _ {n : Network} {window : ℕ} {until : Bool} {old : Stage} (line : Timed
   shown_on new more film begins second view all to_come text (HasShown.seconds before is seconds shown) =
       let here : seconds_of n window (old.second + seconds_before old.second line) (after_line n window line (after_quiet n (seconds_before old.second line) old.view)) to_come
       ≡ seconds_of n window new.second new.view to_come = ap (λ (s : ℕ). seconds_of n window s (after_line n window line (after_quiet n (seconds_before old.second line) old.view)) to_come)
-          (sym second)
+      (sym second)
       ∙ ap (λ (u : View). seconds_of n window new.second u to_come) (sym view) in
       let front = before ++ quiet n (seconds_before old.second line) old.second old.view in
       HasShown.seconds front begins (passed n window old.second old.view all to_come before line seconds ∙ ap (λ (xs : List (ℕ × View)). front ++ xs) here) (films_then shown film)

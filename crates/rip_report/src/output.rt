@@ -150,6 +150,14 @@ impl<K: Sink> Out<K> {
         self.page.clear(&mut self.sink, &mut self.wrote);
     }
 
+    /// Sends what has not gone out yet, unless there is room for so many bytes behind it: a text that
+    /// is no longer then goes out at once.
+    pub(crate) fn make_room(&mut self, count: usize)
+        ensures { Adds self.old self.new [] }
+    {
+        self.page.make_room(&mut self.sink, &mut self.wrote, count);
+    }
+
     /// Whether a write has failed, so that a loop may stop early.
     pub(crate) fn has_failed(&self) -> bool
         ensures failed { result ≡ self.now.failed }

@@ -91,6 +91,23 @@ impl Page {
         }
     }
 
+    /// Sends what the page holds, unless there is room for so many bytes behind it.
+    pub(crate) fn make_room<K: Sink>(
+        &mut self,
+        out: &mut K,
+        wrote: &mut Result<(), Failed>,
+        count: usize,
+    )
+        ensures writes { (start : SinkState) (text : List ℕ) →
+            Writes start (sink_state K.taken K.broken out.old) wrote.old text (held self.old) →
+            Writes start (sink_state K.taken K.broken out.new) wrote.new text (held self.new) }
+        ensures room { count ≤ PAGE_BYTES → self.new.used + count ≤ PAGE_BYTES }
+    {
+        if count > PAGE_BYTES - self.used {
+            self.clear(out, wrote);
+        }
+    }
+
     /// Adds bytes that there is no room for: sends what the page holds before them.
     #[inline(never)]
     fn push_behind<K: Sink>(&mut self, out: &mut K, wrote: &mut Result<(), Failed>, bytes: &[u8])

@@ -19,8 +19,8 @@ use rip_log::{Failed, Sink, Source};
 use rip_plan::MOST_PLAN_BYTES;
 use rip_report::laws::accepted_tables;
 use rip_report::{
-    Authentication, Manner, RunError, Status, Watching, run_audit, run_expect, run_explain, run_heard,
-    run_plan, run_routes, run_routes_anyway, run_table, run_table_anyway, run_whatif,
+    Authentication, Manner, RunError, Status, Watching, run_audit, run_expect, run_explain,
+    run_heard, run_plan, run_routes, run_routes_anyway, run_table, run_table_anyway, run_whatif,
 };
 use rip_table::WindowLength;
 use std::alloc::Global;

@@ -43,13 +43,19 @@ pub(crate) fn line_time(packet: &Packet<'_>, asked: bool) -> Result<Option<u64>,
     }
 }
 
-/// Adds a time and a blank, if there is one.
+/// Room for a line with a time: 27 bytes, a name of 32, an address of 15 and 1,008 digits, and what is
+/// between them.
+const LINE_BYTES: usize = 1_100;
+
+/// Adds a time and a blank, if there is one. Then the line goes out in one piece, so that in one pipe the
+/// lines of several processes are whole.
 pub(crate) fn push_time<K: Sink>(out: &mut Out<K>, micros: Option<u64>)
     requires { IfSome micros (λ n. n ≤ MOST_MICROS) }
     ensures { (time : Option DateTime) × IsShown micros time
         × Adds out.old out.new (time_part time) }
 {
     if let Some(micros) = micros {
+        out.make_room(LINE_BYTES);
         out.push_bytes(&write_time(micros));
         out.push(" ");
     }

@@ -44,12 +44,12 @@ returns g c =
         };
         settled = λ text given said says.
             let shown = shown_told S.given S.at_end log new after reader c.new-text.result c.watch_lines-ended.new.out n watching.length watching.until_settled ended text c.into_source.ensures front
-                run.shows given in
+            run.shows given in
             answered (λ status. (status ≡ Settled) ↔ EndsRight n watching.length watching.until_settled said) answer end
             (ends_settled lines one n watching.length watching.until_settled text shown.text ended shown.is_text said says);
         film = λ text plain given within goes_on s table.
             let shown = shown_told S.given S.at_end log new after reader c.new-text.result c.watch_lines-ended.new.out n watching.length watching.until_settled ended text c.into_source.ensures front
-                run.shows given in
+            run.shows given in
             answered (IsVerdictStatus n s) answer end
             (ends_film_of lines one c.timed_records.ensures c.last_seconds.ensures n watching.length watching.until_settled text shown.text plain ended c.lawful.ensures shown.is_text goes_on within
             s table);

@@ -175,7 +175,7 @@ lines-preserved g c =
       passed = λ whole begins.
           let coming = rest_of S.given whole in
           rw h.behind (passes_more (timed_text coming c.args.reader.now) (timed_text coming was) (timed_text coming now) _ (timed_lines was) (c.lines.invariant.passed whole
-              (begins_back S.given S.coming S.at_end whole (timed_source was) (timed_source now) h.went begins)) (h.gives whole begins));
+          (begins_back S.given S.coming S.at_end whole (timed_source was) (timed_source now) h.went begins)) (h.gives whole begins));
       went = went_on S.given S.coming S.at_end (timed_source c.args.reader.now) (timed_source was) (timed_source now) c.lines.invariant.went h.went;
       stage = c.take.ensures.stage (c.in-Ok-None-take.is ∙ ap Ok c.in-Ok-None-take.field-0-is);
       marks = h.marks ∙ c.lines.invariant.marks;

@@ -7,7 +7,7 @@ pub returns-in-None-clause-takes : goal.returns-in-None-clause-takes
 returns-in-None-clause-takes g c =
     let watching = c.args.watching.now in
     takes_untimed c.args.plan.now watching.length watching.until_settled c.args.line.now (stage_of g.T.WindowTable.window c.args.self.now) c.args.out.now c.refuse_untimed.new.out
-        c.refuse_untimed.result
+    c.refuse_untimed.result
     c.requires.begun c.refuse_untimed.ensures
 
 pub returns-in-Some-clause-takes : goal.returns-in-Some-clause-takes

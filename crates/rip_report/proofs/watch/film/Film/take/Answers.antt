@@ -12,7 +12,7 @@ returns-in-Ok-clause-lasts g c same =
     let laws = c.lasting_scenes.ensures in
     let window = c.args.watching.now.length in
     let is : view_of g.T.WindowTable.window c.hear.new.self ≡ after_line c.args.plan.now window c.args.line.now (after_quiet c.args.plan.now
-        (seconds_before c.args.self.now.second c.args.line.now) v) =
+    (seconds_before c.args.self.now.second c.args.line.now) v) =
     c.in-Ok.ensures.hears ∙ ap (after_line c.args.plan.now window c.args.line.now)
     (c.in_ok-advance.ensures.view (ap (λ (b : Bool). Ok b) c.if-branch.false) ∙ ap (λ (s : ℕ). after_quiet c.args.plan.now (s - c.args.self.now.second) v) c.second_with-to.ensures.later) in
     subst (LastsFor window) (sym is)
