@@ -28,6 +28,8 @@ use Rattle.rip_report.specs.declared.status.RunError.TheVariants.{Memory, Read, 
 use Rattle.rip_report.specs.declared.status.Status.{Status}
 use Rattle.rip_report.specs.declared.status.Status.TheVariants.{Refused, Settled}
 use Rattle.rip_log.specs.declared.source.Source.{Ghosts as SourceOf}
+use Rattle.rip_plan.specs.PlanFaults.{IsFault, PlanFault}
+use Rattle.rip_plan.specs.WellFormed.{IsWellFormed}
 use Rattle.rip_plan.specs.declared.error.PlanCode.TheVariants.{Memory as OutOfMemory}
 use Rattle.rip_plan.specs.declared.error.PlanError.{PlanError}
 use Rattle.rip_report.specs.PlanText.{refused_plan}
@@ -196,9 +198,8 @@ ends_film_of law one timed last n window until text printed plain (Ok status) la
     ends_verdict s goes_on (subst (λ (l : List LineSaid). Watched n window until l (record { text = printed; status = status })) same watched) ends
 
 pub settled_also : (n m : Network) (window : ℕ) (until : Bool) (said : List LineSaid) (r : Result Status RunError) → n ≡ m → IfOk r (λ status. (status ≡ Settled) ↔ EndsRight m window until said)
-    → IfOk r (λ status. status ≢ Refused → (status ≡ Settled) ↔ EndsRight n window until said)
-settled_also n m window until said (Ok status) same settled = λ other. subst (λ (k : Network). (status ≡ Settled) ↔ EndsRight k window until said) (sym same) settled
-settled_also n m window until said (Err e) same settled = tt
+    → IfOk r (λ status. (status ≡ Settled) ↔ EndsRight n window until said)
+settled_also n m window until said r same settled = subst (λ (k : Network). IfOk r (λ status. (status ≡ Settled) ↔ EndsRight k window until said)) (sym same) settled
 
 -- ---- a plan that is refused
 
@@ -206,6 +207,15 @@ refused_status : {K : Type 0} (taken : K → Taken) (broken : K → Bool) (a b :
     → IfOk answer (λ status. status ≡ Refused)
 refused_status taken broken a b e (Ok status) p = ap (λ (w : Written). w.status) p.text.1
 refused_status taken broken a b e (Err f) p = tt
+
+-- a plan without a fault is not refused
+pub never_refused : (IsSaid : Status → Type 0) (bytes : List ℕ) (e : PlanError) (answer : Result Status RunError) → ((e.code ≡ OutOfMemory → ⊥) → PlanFault bytes e)
+    → (answer ≡ Err Memory) ↔ (e.code ≡ OutOfMemory) → ((e : PlanError) → IsFault bytes e → ⊥) ↔ IsWellFormed bytes → IsWellFormed bytes → IfOk answer IsSaid
+never_refused IsSaid bytes e (Ok status) told memory words well = let fault = told (λ m. other (memory.1 m)) in absurd (words.1 well e (fault.pass, fault.found))
+  where
+    other : ◌≡◌ {A = Result Status RunError} (Ok status) (Err Memory) → ⊥
+    other h = absurd (cc h)
+never_refused IsSaid bytes e (Err f) told memory words well = tt
 
 -- what is printed then is a text of its fault
 pub refused_along : {K : Type 0} (IsText IsFront : Written → Type 0) (e : PlanError) (taken : K → Taken) (broken : K → Bool) (a b : K) (answer : Result Status RunError)

@@ -9,6 +9,7 @@ ghost use Rattle.rip_log.specs.Wholes.{OfWhole, Went};
 ghost use Rattle.rip_log.specs.declared.limits.TheConstants.{MOST_SECONDS};
 ghost use Rattle.rip_plan.specs.Network.{Network};
 ghost use Rattle.rip_plan.specs.PlanOf.{IsPlanOfText};
+ghost use Rattle.rip_plan.specs.WellFormed.{IsWellFormed};
 ghost use Rattle.rip_table.specs.State.{Fits, State};
 ghost use Rattle.rip_table.specs.Window.{new_window, shown};
 ghost use Rattle.rip_report.specs.Films.{EndsFilm, IsEnd, IsNew, IsNotTimed, IsStage, IsUnreadTo, ShowsText, TakesLine, line_second, stage_of};
@@ -294,11 +295,12 @@ pub fn run_watch<R: Source, K: Sink, S: BuildHasher + Drop>(
     // What it prints and leaves.
     ensures runs { RunsOnTimes R.Source K.Sink watching.length watching.until_settled plan.now log
         out result }
-    // Settled is answered exactly where the last second is right; or, with `until_settled`, where any
-    // is. Each other second is printed as settled exactly where it is right, as `WatchText` says.
+    // Of a plan without a fault Settled is answered exactly where the last second is right; or, with
+    // `until_settled`, where any is. Each second is printed as settled exactly where it is right, as
+    // `WatchText` says.
     ensures settled { (text : List ℕ) → IsGiven R.given R.at_end log result.0 text →
-        (n : Network) (said : List LineSaid) → IsPlanOfText plan.now n → TextSays text said →
-        IfOk result.2 (λ status. status ≢ Status.Refused → (status ≡ Status.Settled)
+        (n : Network) (said : List LineSaid) → IsWellFormed plan.now → IsPlanOfText plan.now n →
+        TextSays text said → IfOk result.2 (λ status. (status ≡ Status.Settled)
         ↔ EndsRight n watching.length watching.until_settled said) }
     // Of a log that lies within a window, and that `audit` does not refuse without its times, the
     // status is that of the verdict of `audit`.

@@ -43,9 +43,9 @@ pub(crate) fn line_time(packet: &Packet<'_>, asked: bool) -> Result<Option<u64>,
     }
 }
 
-/// Room for a line with a time: 27 bytes, a name of 32, an address of 15 and 1,008 digits, and what is
-/// between them.
-const LINE_BYTES: usize = 1_100;
+/// Room for a line with a time and a last line behind it: 27 bytes of time, 32 of a name, 15 of an address,
+/// and 1,998 digits of a payload, of which none has more than 999 bytes, and what is between them.
+const LINE_BYTES: usize = 2_300;
 
 /// Adds a time and a blank, if there is one. Then the line goes out in one piece, so that in one pipe the
 /// lines of several processes are whole.

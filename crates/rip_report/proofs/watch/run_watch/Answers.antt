@@ -1,10 +1,11 @@
-use Rattle.std.proofs.Common.{rules}
-use Rattle.std.specs.Prelude.{IfOk}
+use Rattle.std.proofs.Common.{◌≡◌, rules}
+use Rattle.std.specs.Prelude.{◌↔◌, IfOk}
 use Rattle.rip_report.specs.PlanText.{a_fault, of_plan}
-use Rattle.rip_report.specs.WatchText.{IsVerdictStatus, WatchFront, WatchText}
+use Rattle.rip_report.specs.WatchText.{EndsRight, IsVerdictStatus, WatchFront, WatchText}
+use Rattle.rip_report.specs.declared.status.Status.TheVariants.{Settled}
 use Rattle.rip_report.proofs.EndLemmas.{first_told}
 use Rattle.rip_report.proofs.ReportLemmas.{of_read, of_refused, same_plan}
-use Rattle.rip_report.proofs.WatchRunLemmas.{along_also, refused_along, settled_also, undrawn_times}
+use Rattle.rip_report.proofs.WatchRunLemmas.{along_also, never_refused, refused_along, settled_also, undrawn_times}
 use Rattle.rip_report.proofs.watch.run_watch.Goals as goal
 
 pub returns-in-Ok-clause-runs : goal.returns-in-Ok-clause-runs
@@ -20,7 +21,7 @@ returns-in-Ok-clause-runs g c =
     }
 
 pub returns-in-Ok-clause-settled : goal.returns-in-Ok-clause-settled
-returns-in-Ok-clause-settled g c = λ text given n said is says.
+returns-in-Ok-clause-settled g c = λ text given n said well is says.
     let same = same_plan c.args.plan.now n c.in-Ok.plan (λ n m q. c.one_plan.ensures q.document n m) is c.in-Ok.ensures.plan in
     settled_also n c.in-Ok.plan c.args.watching.length c.args.watching.until_settled said c.watch_log.result.2 same (c.watch_log.ensures.watches.settled text given said says)
 
@@ -47,6 +48,14 @@ returns-in-Err-clause-runs g c =
           (g.met.R.Source.nothing_left c.args.log) refused.read refused.prints;
       refuses = search rules;
     }
+
+pub returns-in-Err-clause-settled : goal.returns-in-Err-clause-settled
+returns-in-Err-clause-settled g c = λ text given n said well is says.
+    let e = c.in-Err.error in
+    let bytes = c.args.plan.now in
+    let watching = c.args.watching in
+    never_refused (λ status. (status ≡ Settled) ↔ EndsRight n watching.length watching.until_settled said) bytes e c.refuse_plan-out.result.1 (first_told bytes e c.in-Err.ensures.told)
+    c.refuse_plan-out.ensures.memory (c.well_formed_texts.ensures bytes) well
 
 pub returns-in-Err-clause-film : goal.returns-in-Err-clause-film
 returns-in-Err-clause-film g c = λ text plain given within goes_on n s accepted.
