@@ -126,6 +126,11 @@ untimed_none : (n : Network) (window : ℕ) (said : List LineSaid) (first : Line
     → log_seconds n window said ≡ []
 untimed_none n window said first others code is none = ap (log_seconds n window) is ∙ ap (λ (t : TimedSaid). from_first n window (own_second t) (first ∷ others)) none
 
+-- in no episode the verdict is that on what is shown
+pub verdict_shown : {n : Network} {v : View} {w : Written} → SceneText n v w → v.episode ≡ None → VerdictText n (shown v.window) false w
+verdict_shown (SceneText.a_refusal e is) calm = absurd (cc (is, calm))
+verdict_shown (SceneText.of_table w calm verdict) is = verdict
+
 module _ {n : Network} {window : ℕ} {until : Bool} {said : List LineSaid} where
   pub ends_right : {w : Written} → Watched n window until said w → (w.status ≡ Settled) ↔ EndsRight n window until said
   ends_right (Watched.no_line none) = (
@@ -173,11 +178,7 @@ module _ {n : Network} {window : ℕ} {until : Bool} {said : List LineSaid} wher
       let last = last_second statuses status shots refl in
       let one = same_last last.before ends.before (last.second, last.view) (ends.second, ends.view) (sym last.split ∙ ends.split) in
       let view : last.view ≡ ends.view = ap (λ (x : ℕ × View). x.1) one in
-      let verdict = of_shown (subst (λ (v : View). SceneText n v last.verdict) view last.says) ends.calm in (
+      let verdict = verdict_shown (subst (λ (v : View). SceneText n v last.verdict) view last.says) ends.calm in (
         last.verdict.text,
         subst (λ (t : Status). VerdictText n s false (record { text = last.verdict.text; status = t })) last.same (subst (λ (t : State). VerdictText n t false last.verdict) ends.shows verdict),
       )
-    where
-      of_shown : {v : View} {w : Written} → SceneText n v w → v.episode ≡ None → VerdictText n (shown v.window) false w
-      of_shown (SceneText.a_refusal e is) calm = absurd (cc (is, calm))
-      of_shown (SceneText.of_table w calm verdict) is = verdict

@@ -15,13 +15,14 @@ use Rattle.rip_plan.specs.Relations.{IsLawful}
 use Rattle.rip_table.specs.LogJoin.{IsJoined}
 use Rattle.rip_table.specs.Seconds.{AreWithin, EndsShowing, log_seconds}
 use Rattle.rip_table.specs.State.{State, new_state}
+use Rattle.rip_report.specs.AuditText.{VerdictText}
 use Rattle.rip_report.specs.Films.{IsUnreadTo, ShowsText}
 use Rattle.rip_report.specs.Finished.{EndsWith}
 use Rattle.rip_report.specs.Given.{IsGiven}
 use Rattle.rip_report.specs.Outs.{AddsOne, Progress}
 use Rattle.rip_report.specs.ReportText.{IsTable}
 use Rattle.rip_report.specs.Sent.{Began, BeginningOut, Keeps, Prints, PrintsAlong, SinkState, WentOut, sink_state}
-use Rattle.rip_report.specs.WatchText.{EndsRight, IsVerdictStatus, LiesWithin, Watched, WatchedFront, WatchedLog, WatchedLogFront}
+use Rattle.rip_report.specs.WatchText.{EndsAsJudged, EndsRight, IsVerdictStatus, LiesWithin, SceneText, Watched, WatchedFront, WatchedLog, WatchedLogFront}
 use Rattle.rip_report.specs.Written.{Written}
 use Rattle.rip_report.specs.declared.status.RunError.{RunError}
 use Rattle.rip_report.specs.declared.status.RunError.TheVariants.{Memory, Read, Write}
@@ -36,7 +37,7 @@ use Rattle.rip_report.specs.PlanText.{refused_plan}
 use Rattle.rip_report.specs.Runs.{DrawsTimes}
 use Rattle.rip_report.proofs.EndLemmas.{refused_prints}
 use Rattle.rip_report.proofs.GivenLemmas.{rest_given, undrawn}
-use Rattle.rip_report.proofs.RightSecondLemmas.{ends_right, ends_verdict}
+use Rattle.rip_report.proofs.RightSecondLemmas.{ends_right, ends_verdict, verdict_shown}
 
 -- ---- what was printed
 
@@ -182,20 +183,48 @@ ends_settled law one n window until text printed (Err e) shown said says = tt
 ends_settled law one n window until text printed (Ok status) (all, are, watched) said says =
     subst (λ (l : List LineSaid). (status ≡ Settled) ↔ EndsRight n window until l) (same_said law one text says.lines all said are says.are_lines says.are_said) (ends_right watched)
 
-pub ends_film_of : LinesLaw → OneLaw → (timed : (m n : ℕ) (lines bares : List (List ℕ)) (said : List LineSaid) (records : List Numbered) → AreTimedOf lines bares → AreRecords m bares records
-    → AreTimedSaid n lines said → AreCaptured said records)
-    → (last : (n : Network) (window : ℕ) (said : List LineSaid) (records : List Numbered) (s : State) → IsLawful n → AreWithin window said → AreCaptured said records
-    → IsJoined n (new_state n) records s → EndsShowing (log_seconds n window said) s)
-    → (n : Network) (window : ℕ) (until : Bool) (text printed plain : List ℕ) (ended : Result Status RunError) → IsLawful n → ShowsText n window until (Some text) ended printed → until ≡ false
-    → LiesWithin window text plain → (s : State) → IsTable n plain s → IfOk ended (IsVerdictStatus n s)
-ends_film_of law one timed last n window until text printed plain (Err e) lawful shown goes_on within s table = tt
-ends_film_of law one timed last n window until text printed plain (Ok status) lawful (all, are, watched) goes_on within s table =
+abbrev TimedLaw : Type 0
+TimedLaw = (m n : ℕ) (lines bares : List (List ℕ)) (said : List LineSaid) (records : List Numbered) → AreTimedOf lines bares → AreRecords m bares records → AreTimedSaid n lines said
+    → AreCaptured said records
+
+abbrev LastLaw : Type 0
+LastLaw = (n : Network) (window : ℕ) (said : List LineSaid) (records : List Numbered) (s : State) → IsLawful n → AreWithin window said → AreCaptured said records → IsJoined n (new_state n) records s
+    → EndsShowing (log_seconds n window said) s
+
+-- a log within a window ends with the table of the log without times
+pub ends_showing : LinesLaw → TimedLaw → LastLaw → (n : Network) (window : ℕ) (text plain : List ℕ) → IsLawful n → (within : LiesWithin window text plain) → (s : State) → IsTable n plain s
+    → EndsShowing (log_seconds n window within.said) s
+ends_showing law timed last n window text plain lawful within s table =
     let bares : table.text.lines ≡ within.bares = (law plain table.text.lines).0 table.text.are_lines ∙ sym ((law plain within.bares).0 within.are_bares) in
     let records = subst (λ (l : List (List ℕ)). AreRecords 0 l table.records) bares table.text.are_records in
     let captured = timed 0 0 within.lines within.bares within.said table.records within.timed records within.says in
-    let ends = last n window within.said table.records s lawful within.within captured table.joined in
+    last n window within.said table.records s lawful within.within captured table.joined
+
+pub ends_film_of : LinesLaw → OneLaw → TimedLaw → LastLaw → (n : Network) (window : ℕ) (until : Bool) (text printed plain : List ℕ) (ended : Result Status RunError) → IsLawful n
+    → ShowsText n window until (Some text) ended printed → until ≡ false → LiesWithin window text plain → (s : State) → IsTable n plain s → IfOk ended (IsVerdictStatus n s)
+ends_film_of law one timed last n window until text printed plain (Err e) lawful shown goes_on within s table = tt
+ends_film_of law one timed last n window until text printed plain (Ok status) lawful (all, are, watched) goes_on within s table =
     let same = same_said law one text within.lines all within.said are within.are_lines within.says in
-    ends_verdict s goes_on (subst (λ (l : List LineSaid). Watched n window until l (record { text = printed; status = status })) same watched) ends
+    ends_verdict s goes_on (subst (λ (l : List LineSaid). Watched n window until l (record { text = printed; status = status })) same watched)
+    (ends_showing law timed last n window text plain lawful within s table)
+
+-- the verdicts on its last second are those on that table
+pub ends_judged : LinesLaw → OneLaw → TimedLaw → LastLaw → (n : Network) (window : ℕ) (text plain : List ℕ) → IsLawful n → LiesWithin window text plain → (s : State) → IsTable n plain s
+    → (said : List LineSaid) → TextSays text said → EndsAsJudged n (log_seconds n window said) s
+ends_judged law one timed last n window text plain lawful within s table said says =
+    let ends = ends_showing law timed last n window text plain lawful within s table in
+    let lines : says.lines ≡ within.lines = (law text says.lines).0 says.are_lines ∙ sym ((law text within.lines).0 within.are_lines) in
+    let same : within.said ≡ said = one 0 within.lines within.said said within.says (subst (λ (l : List (List ℕ)). AreTimedSaid 0 l said) lines says.are_said) in
+    record {
+      before = ends.before;
+      second = ends.second;
+      view = ends.view;
+      split = ap (log_seconds n window) (sym same) ∙ ends.split;
+      same = λ w. (
+        λ scene. subst (λ (t : State). VerdictText n t false w) ends.shows (verdict_shown scene ends.calm),
+        λ verdict. SceneText.of_table w ends.calm (subst (λ (t : State). VerdictText n t false w) (sym ends.shows) verdict),
+      );
+    }
 
 pub settled_also : (n m : Network) (window : ℕ) (until : Bool) (said : List LineSaid) (r : Result Status RunError) → n ≡ m → IfOk r (λ status. (status ≡ Settled) ↔ EndsRight m window until said)
     → IfOk r (λ status. (status ≡ Settled) ↔ EndsRight n window until said)

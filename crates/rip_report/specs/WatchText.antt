@@ -139,3 +139,11 @@ pub record LiesWithin (window : ℕ) (text plain : List ℕ) : Type 0 where
 abbrev pub IsVerdictStatus : Network → State → Status → Type 0
 IsVerdictStatus n s status =
     (text : List ℕ) × VerdictText n s false (record { text = text; status = status })
+
+-- the verdicts that the last of these seconds may have are those on the table
+pub record EndsAsJudged (n : Network) (seconds : List (ℕ × View)) (s : State) : Type 0 where
+  pub before : List (ℕ × View)
+  pub second : ℕ
+  pub view : View
+  pub split : seconds ≡ before ++ (second, view) ∷ []
+  pub same : (w : Written) → SceneText n view w ↔ VerdictText n s false w

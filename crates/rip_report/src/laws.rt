@@ -5,6 +5,7 @@ ghost use Rattle.std.specs.Prelude.{◌≡◌, ◌≢◌, ◌↔◌, ◌⊎◌, 
 ghost use Rattle.std.specs.List.{AllByRecursion};
 ghost use Rattle.rip_log.specs.Logs.{Numbered};
 ghost use Rattle.rip_log.specs.LogText.{EndsLine, LogText};
+ghost use Rattle.rip_log.specs.TimedText.{LineSaid, TextSays};
 ghost use Rattle.rip_report.specs.CaptureText.{count_of, is_cut, is_datagram, is_elsewhere, is_fragment, is_long, is_malformed, is_other, mixed_count};
 ghost use Rattle.rip_report.specs.Selections.{Carrier, Part};
 ghost use Rattle.rip_report.specs.CaptureText.{counts_of as counts_of_packets};
@@ -19,6 +20,7 @@ ghost use Rattle.rip_check.specs.Laws.{OneIsShown};
 ghost use Rattle.rip_check.specs.Told.{told};
 ghost use Rattle.rip_table.specs.Events.{EventAt};
 ghost use Rattle.rip_table.specs.LogJoin.{IsJoined};
+ghost use Rattle.rip_table.specs.Seconds.{log_seconds};
 ghost use Rattle.rip_table.specs.State.{State, new_state};
 ghost use Rattle.rip_table.specs.Tallies.{counts_of};
 ghost use Rattle.rip_report.specs.Hearings.{LogComesTo};
@@ -27,13 +29,14 @@ ghost use Rattle.rip_report.specs.AuditText.{AuditText, VerdictText};
 ghost use Rattle.rip_report.specs.ExplainText.{ExplainText};
 ghost use Rattle.rip_report.specs.ReportText.{AreRead, IsAccepted, IsTable, ReportText};
 ghost use Rattle.rip_report.specs.Sent.{WentOut};
+ghost use Rattle.rip_report.specs.WatchText.{EndsAsJudged, LiesWithin};
 ghost use Rattle.rip_log.specs.Taken.{Taken};
 
 use rip_capture::laws::{one_origin, packet_bytes};
 use rip_check::laws::one_set_of_tables;
-use rip_log::laws::log_texts;
+use rip_log::laws::{log_texts, timed_records, timed_texts};
 use rip_plan::laws::{one_plan, well_formed_texts};
-use rip_table::laws::{calm_counts, calm_logs, lines_come_to, new_states, one_join};
+use rip_table::laws::{calm_counts, calm_logs, last_seconds, lines_come_to, new_states, one_join};
 
 /// Nothing is refused, a stranger's or bad exactly where the log is accepted, and the table of what
 /// is not refused is then the one that is judged.
@@ -78,6 +81,18 @@ pub fn accepted_answers()
     one_plan();
     one_join();
     well_formed_texts();
+}
+
+/// Of a log with times that lies within a window, and that `audit` accepts with the plan where it has
+/// no times, the verdict on the last second is that of `audit`.
+pub fn last_verdicts()
+    ensures { (plan text plain : List ℕ) (window : ℕ) (n : Network) (s : State)
+        (said : List LineSaid) → IsAccepted plan plain n s → LiesWithin window text plain →
+        TextSays text said → EndsAsJudged n (log_seconds n window said) s }
+{
+    timed_texts();
+    timed_records();
+    last_seconds();
 }
 
 /// Each packet of a file is counted as one thing, and passwords and authentication are left out of
