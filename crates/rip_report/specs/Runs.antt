@@ -115,8 +115,8 @@ pub record RunsOnLog {R K : Type 0} (source : SourceOf R) (sink : SinkOf K)
   -- behind the line at which a log is refused no more is pulled than a reader holds
   pub stops : StopsAtRefusal source.given source.at_end plan log run.0 run.2
 
--- a run on a plan and a log that goes on to the last line, whatever the lines say, by the texts that
--- its command has for what the lines come to
+-- a run on a plan and a log that goes on to the last line, whatever the lines say, by the texts
+-- that its command has for what the lines come to
 pub record RunsToEnd {R K : Type 0} (source : SourceOf R) (sink : SinkOf K)
     (IsText : Network → List EventAt → State → Written → Type 0) (plan : List ℕ) (log : R)
     (out : K) (run : R × K × Result Status RunError) : Type 0 where

@@ -68,8 +68,8 @@ pub record Prints
   -- after every other answer it has failed only where it had before
   pub sink : result ≢ Err Write → broken new ≡ broken old
 
--- what a run leaves that prints one of these texts while it reads: where it gives up, a beginning of
--- one of those went out
+-- what a run leaves that prints one of these texts while it reads: where it gives up, a beginning
+-- of one of those went out
 pub record PrintsAlong
     {K : Type 0}
     (taken : K → Taken)

@@ -73,9 +73,9 @@ FilmToSettled n last seconds ended text =
     (statuses : List Status) × Shots n last seconds text ended (statuses ++ Settled ∷ [])
     × AreNotSettled statuses
 
--- What is printed for the lines of a log: where there is none, nothing; where the first has no time,
--- its refusal; or else for all its seconds, of which none is settled where that would end it; or for
--- those up to the first that is, where that ends it.
+-- What is printed for the lines of a log: where there is none, nothing; where the first has no
+-- time, its refusal; or else for all its seconds, of which none is settled where that would end it;
+-- or for those up to the first that is, where that ends it.
 pub data Watched (n : Network) (window : ℕ) (until : Bool) (said : List LineSaid)
     : Written → Type 0 where
   no_line : said ≡ [] → Watched n window until said (record { text = []; status = Unclear })

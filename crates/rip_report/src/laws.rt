@@ -63,8 +63,9 @@ pub fn accepted_tables()
     one_set_of_tables();
 }
 
-/// Where a plan and a log are accepted, the headline of `audit` and of `explain` speaks of them, the
-/// answer is not Refused, and what is printed is the text of the verdict, or of its explanation.
+/// Where a plan and a log are accepted, the headline of `audit` and of `explain` speaks of them,
+/// the answer is not Refused, and what is printed is the text of the verdict, or of its
+/// explanation.
 pub fn accepted_answers()
     ensures read { (plan text : List ℕ) (n : Network) (s : State) →
         IsAccepted plan text n s → AreRead plan text n s }
@@ -83,8 +84,8 @@ pub fn accepted_answers()
     well_formed_texts();
 }
 
-/// Of a log with times that lies within a window, and that `audit` accepts with the plan where it has
-/// no times, the verdict on the last second is that of `audit`.
+/// Of a log with times that lies within a window, and that `audit` accepts with the plan where it
+/// has no times, the verdict on the last second is that of `audit`.
 pub fn last_verdicts()
     ensures { (plan text plain : List ℕ) (window : ℕ) (n : Network) (s : State)
         (said : List LineSaid) → IsAccepted plan plain n s → LiesWithin window text plain →
@@ -114,8 +115,9 @@ pub fn counted_packets()
         (counts_of_packets how carriers).without_authentication ≡ 0 }
 {}
 
-/// What a log has of a capture file ends a line; and if no line of it is bad, the file is a capture,
-/// all its datagrams to 224.0.0.9 are there whole, and they are the records of these lines.
+/// What a log has of a capture file ends a line; and if no line of it is bad, the file is a
+/// capture, all its datagrams to 224.0.0.9 are there whole, and they are the records of these
+/// lines.
 pub fn logged_files()
     ensures ends { (how : Manner) (number lines after : ℕ) (part : Part) (bytes text : List ℕ)
         (answer : Result Status RunError) →

@@ -150,8 +150,8 @@ impl<K: Sink> Out<K> {
         self.page.clear(&mut self.sink, &mut self.wrote);
     }
 
-    /// Sends what has not gone out yet, unless there is room for so many bytes behind it: a text that
-    /// is no longer then goes out at once.
+    /// Sends what has not gone out yet, unless there is room for so many bytes behind it: a text
+    /// that is no longer then goes out at once.
     pub(crate) fn make_room(&mut self, count: usize)
         ensures { Adds self.old self.new [] }
     {
@@ -187,8 +187,8 @@ impl<K: Sink> Out<K> {
         }
     }
 
-    /// Sends what is left, and ends a run with this answer, or with Write where the sink has failed:
-    /// Write is the answer of a run that stopped there.
+    /// Sends what is left, and ends a run with this answer, or with Write where the sink has
+    /// failed: Write is the answer of a run that stopped there.
     pub(crate) fn finish_with(
         self,
         answer: Result<Status, RunError>,

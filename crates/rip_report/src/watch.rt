@@ -206,8 +206,9 @@ fn watch_lines<R: Source, T: WindowTable, K: Sink>(
     ensures marks { result ≢ Err RunError.Read →
         R.broken (timed_source reader.new) ≡ R.broken (timed_source reader.old) }
     ensures write { result ≡ Err RunError.Write → out.new.failed ≡ true }
-    ensures ended { IfOk result (λ status. (watching.now.until_settled ≡ true → status ≢ Status.Settled)
-        → status ≢ Status.Refused → R.at_end (timed_source reader.new) ≡ true) }
+    ensures ended { IfOk result (λ status. (watching.now.until_settled ≡ true →
+        status ≢ Status.Settled) → status ≢ Status.Refused →
+        R.at_end (timed_source reader.new) ≡ true) }
 {
     timed_texts();
     'lines: loop {
@@ -241,8 +242,8 @@ fn watch_by<R: Source, T: WindowTable + Drop, K: Sink>(
 ) -> (R, K, Result<Status, RunError>)
     requires new { T.window table ≡ new_window plan.now }
     requires fits { Fits plan.now (T.state table) }
-    ensures watches { Watches R.Source K.Sink watching.now.length watching.now.until_settled plan.now
-        log out result }
+    ensures watches { Watches R.Source K.Sink watching.now.length watching.now.until_settled
+        plan.now log out result }
 {
     lasting_scenes();
     last_seconds();
@@ -269,8 +270,8 @@ fn watch_log<R: Source, K: Sink, S: BuildHasher + Drop>(
     out: K,
     hasher: S,
 ) -> (R, K, Result<Status, RunError>)
-    ensures watches { Watches R.Source K.Sink watching.now.length watching.now.until_settled plan.now
-        log out result }
+    ensures watches { Watches R.Source K.Sink watching.now.length watching.now.until_settled
+        plan.now log out result }
 {
     match GridWindow::with_hasher(alloc, plan, hasher) {
         Ok(table) => watch_by(alloc, plan, watching, table, log, out),
@@ -279,11 +280,11 @@ fn watch_log<R: Source, K: Sink, S: BuildHasher + Drop>(
 }
 
 /// Prints the verdict on a network in each second of a log with times in which it changed, as soon
-/// as a line of a later second has come, or why the plan is refused. What an interface says is shown
-/// for `watching.length`. Lines that are refused, good ones of others between them, are an episode,
-/// in which the verdict is the refusal of its first. The status is that of the last verdict; with
-/// `until_settled` the first settled second ends the run. The source and the sink come back. The log
-/// chooses the prefixes, so the hasher should be seeded at random.
+/// as a line of a later second has come, or why the plan is refused. What an interface says is
+/// shown for `watching.length`. Lines that are refused, good ones of others between them, are an
+/// episode, in which the verdict is the refusal of its first. The status is that of the last
+/// verdict; with `until_settled` the first settled second ends the run. The source and the sink
+/// come back. The log chooses the prefixes, so the hasher should be seeded at random.
 pub fn run_watch<R: Source, K: Sink, S: BuildHasher + Drop>(
     alloc: Global,
     plan: &[u8],
@@ -295,9 +296,9 @@ pub fn run_watch<R: Source, K: Sink, S: BuildHasher + Drop>(
     // What it prints and leaves.
     ensures runs { RunsOnTimes R.Source K.Sink watching.length watching.until_settled plan.now log
         out result }
-    // Of a plan without a fault Settled is answered exactly where the last second is right; or, with
-    // `until_settled`, where any is. Each second is printed as settled exactly where it is right, as
-    // `WatchText` says.
+    // Of a plan without a fault Settled is answered exactly where the last second is right; or,
+    // with `until_settled`, where any is. Each second is printed as settled exactly where it is
+    // right, as `WatchText` says.
     ensures settled { (text : List ℕ) → IsGiven R.given R.at_end log result.0 text →
         (n : Network) (said : List LineSaid) → IsWellFormed plan.now → IsPlanOfText plan.now n →
         TextSays text said → IfOk result.2 (λ status. (status ≡ Status.Settled)

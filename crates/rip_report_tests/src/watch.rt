@@ -1,5 +1,5 @@
-//! The command `watch`: a film of the triangle, to its end or to its first settled second, in pieces, and
-//! with sources and sinks that fail.
+//! The command `watch`: a film of the triangle, to its end or to its first settled second, in
+//! pieces, and with sources and sinks that fail.
 
 use rip_log::{FromRead, IntoWrite, Sink, Source};
 use rip_report::{RunError, Status, Watching, run_watch};
@@ -87,8 +87,8 @@ fn films_in_pieces(rt: HostRuntime) {
 /// The bytes of each of its first five lines.
 const LINE: usize = 58;
 
-/// A source that fails leaves the film of the lines before, but for the second of the last; a sink that
-/// fails leaves what it has taken.
+/// A source that fails leaves the film of the lines before, but for the second of the last; a sink
+/// that fails leaves what it has taken.
 #[test]
 fn devices_that_fail(rt: HostRuntime) {
     let mut whole = 0usize;

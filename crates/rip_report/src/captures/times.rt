@@ -43,12 +43,13 @@ pub(crate) fn line_time(packet: &Packet<'_>, asked: bool) -> Result<Option<u64>,
     }
 }
 
-/// Room for a line with a time and a last line behind it: 27 bytes of time, 32 of a name, 15 of an address,
-/// and 1,998 digits of a payload, of which none has more than 999 bytes, and what is between them.
+/// Room for a line with a time and a last line behind it: 27 bytes of time, 32 of a name, 15 of an
+/// address, and 1,998 digits of a payload, of which none has more than 999 bytes, and what is
+/// between them.
 const LINE_BYTES: usize = 2_300;
 
-/// Adds a time and a blank, if there is one. Then the line goes out in one piece, so that in one pipe the
-/// lines of several processes are whole.
+/// Adds a time and a blank, if there is one. Then the line goes out in one piece, so that in one
+/// pipe the lines of several processes are whole.
 pub(crate) fn push_time<K: Sink>(out: &mut Out<K>, micros: Option<u64>)
     requires { IfSome micros (λ n. n ≤ MOST_MICROS) }
     ensures { (time : Option DateTime) × IsShown micros time

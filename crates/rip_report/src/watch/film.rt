@@ -1,5 +1,5 @@
-//! A film: the verdict on a network in each second of a log with times, behind the lines of which it
-//! stands.
+//! A film: the verdict on a network in each second of a log with times, behind the lines of which
+//! it stands.
 
 ghost use Rattle.std.specs.Prelude.{◌≡◌, ◌≢◌, ◌+◌, ◌-◌, ◌≤◌, false, true, IfOk, IfSome, OnErr, Ok};
 ghost use Rattle.rip_log.specs.TimedCall.{timed_said_of};
@@ -114,8 +114,8 @@ pub(crate) struct Film<T> {
 }
 
 impl<T: WindowTable> Film<T> {
-    /// Ends the present second: prints its time and its verdict, at once, unless the verdict is that
-    /// of the second before.
+    /// Ends the present second: prints its time and its verdict, at once, unless the verdict is
+    /// that of the second before.
     pub(crate) fn show<K: Sink>(
         &mut self,
         alloc: Global,
