@@ -281,8 +281,8 @@ fn watch_log<R: Source, K: Sink, S: BuildHasher + Drop>(
 
 /// Prints the verdict on a network in each second of a log with times in which it changed, as soon
 /// as a line of a later second has come, or why the plan is refused. What an interface says is
-/// shown for `watching.length`. Lines that are refused, good ones of others between them, are an
-/// episode, in which the verdict is the refusal of its first. The status is that of the last
+/// shown for `watching.length`. Refused lines, each less than that behind the one before, are an
+/// episode, in which the verdict is the refusal of the first. The status is that of the last
 /// verdict; with `until_settled` the first settled second ends the run. The source and the sink
 /// come back. The log chooses the prefixes, so the hasher should be seeded at random.
 pub fn run_watch<R: Source, K: Sink, S: BuildHasher + Drop>(
