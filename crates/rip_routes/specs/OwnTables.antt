@@ -55,7 +55,7 @@ pub record AreOwnTables (t : OwnTables) : Type 0 where
   pub told : (r : ℕ) (p : Block) (route : OwnRoute) → t.routes r p ≡ Some route
       → IsOwnRoute route × (is_among p t.prefixes ≡ true)
   pub listed : (r : ℕ) → IsTrue (t.listed r)
-      ↔ ((p : Block) (route : OwnRoute) × (t.routes r p ≡ Some route))
+      ↔ ((p : Block) × (route : OwnRoute) × (t.routes r p ≡ Some route))
 
 -- the list begins with the plan's prefixes, the others being unplanned, and a route goes over links
 -- of its router
