@@ -25,6 +25,7 @@ ghost use Rattle.rip_check.specs.declared.verdict.Verdict.{Verdict};
 ghost use Rattle.rip_check.specs.declared.way.Way.{Way};
 
 pub mod examples;
+pub mod own;
 
 /// Poison hides no better route: where every place holds, no neighbour is nearer to a prefix than a
 /// router by more than the link costs, though what it shows there may be 16 (RFC 2453, section

@@ -1,0 +1,80 @@
+-- Walks over the routers' own tables come down, and end where the prefix is.
+use Rattle.std.proofs.Common.{◌≡◌, ℕ, ◌<◌, ◌≤◌, inl, inr, true, Contains, List, [], ◌∷◌, ◌++◌, length, refl, arith}
+use Rattle.rip_plan.specs.Network.{Network}
+use Rattle.rip_plan.specs.Relations.{IsLawful}
+use Rattle.rip_table.specs.State.{State}
+use Rattle.rip_routes.specs.OwnTables.{AreOwnTables, OwnTables, route_at}
+use Rattle.rip_routes.specs.declared.next_hop.NextHop.{NextHop}
+use Rattle.rip_routes.specs.declared.next_hop.NextHop.TheVariants.{Over, Via}
+use Rattle.rip_check.specs.OwnTells.{IsToldBy}
+use Rattle.rip_check.specs.OwnSettled.{IsHopGiven, OwnHoldsAll}
+use Rattle.rip_check.specs.OwnWalks.{EachOwnCanGoOn, EachOwnEndsThere, EachOwnGoesOn, EachOwnIsShort, IsOwnWalk, OwnGoesTo, OwnPacketsArrive}
+use Rattle.rip_check.proofs.ShownLemmas.{known_on}
+use Rattle.rip_check.proofs.OwnRouteLemmas.{route_is}
+use Rattle.rip_check.proofs.OwnOfferLemmas.{own_offer_below}
+
+module _ (n : Network) (told : State) (t : OwnTables) (plan : IsLawful n) (are : AreOwnTables t) (by : IsToldBy n t told) where
+  -- the next router is known, and its metric is less
+  next : (p r s : ℕ) → p < length t.prefixes → (route_at t r p).metric < 16 → OwnGoesTo n told t p r s → (s < length n.routers) × ((route_at t s p).metric < (route_at t r p).metric)
+  next p r s known small g =
+      let e = own_offer_below n told t by r g.link s p (route_at t r p).metric known g.offer small in
+      let least = plan.cost_least g.offer.here.0 r g.link g.offer.cost g.offer.here.1 in
+      (known_on n plan s g.link g.offer.neighbour.there, omega (arith, e.0, least))
+
+  ends_from : (p r : ℕ) (rest : List ℕ) → p < length t.prefixes → (route_at t r p).metric < 16 → EachOwnGoesOn n told t p r rest →
+      length (r ∷ rest) ≤ (route_at t r p).metric
+  ends_from p r [] known small goes = (route_is t are r p).least
+  ends_from p r (s ∷ rest) known small goes =
+      let down = next p r s known small goes.0 in
+      let ih : length (s ∷ rest) ≤ (route_at t s p).metric = ends_from p s rest known (omega (arith, down.1, small)) goes.1 in
+      omega (arith, ih, down.1)
+
+  short : EachOwnIsShort n told t
+  short p r rest known walk =
+      let most = ends_from p r rest known walk.1 walk.2 in
+      (most, omega (arith, most, walk.1))
+
+  -- the last router of a walk is known, and its metric is below 16
+  last_from : (p z r : ℕ) (before : List ℕ) → p < length t.prefixes → (route_at t r p).metric < 16 → EachOwnGoesOn n told t p r (before ++ z ∷ []) →
+      (z < length n.routers) × ((route_at t z p).metric < 16)
+  last_from p z r [] known small goes =
+      let down = next p r z known small goes.0 in
+      (down.0, omega (arith, down.1, small))
+  last_from p z r (s ∷ before) known small goes =
+      let down = next p r s known small goes.0 in
+      last_from p z s before known (omega (arith, down.1, small)) goes.1
+
+  last : (p z : ℕ) (before : List ℕ) → p < length t.prefixes → IsOwnWalk n told t p (before ++ z ∷ []) → (z < length n.routers) × ((route_at t z p).metric < 16)
+  last p z [] known walk = (walk.0, walk.1)
+  last p z (r ∷ before) known walk = last_from p z r before known walk.1 walk.2
+
+  -- one step more
+  more_from : (p z s r : ℕ) (before : List ℕ) → EachOwnGoesOn n told t p r (before ++ z ∷ []) → OwnGoesTo n told t p z s → EachOwnGoesOn n told t p r (before ++ z ∷ s ∷ [])
+  more_from p z s r [] goes step = (goes.0, (step, tt))
+  more_from p z s r (q ∷ before) goes step = (goes.0, more_from p z s q before goes.1 step)
+
+  more : (p z s : ℕ) (before : List ℕ) → IsOwnWalk n told t p (before ++ z ∷ []) → OwnGoesTo n told t p z s → IsOwnWalk n told t p (before ++ z ∷ s ∷ [])
+  more p z s [] walk step = (walk.0, walk.1, (step, tt))
+  more p z s (r ∷ before) walk step = (walk.0, walk.1, more_from p z s r before walk.2 step)
+
+  module _ (holds : OwnHoldsAll n told t) where
+    -- whom a next hop means that gives the metric
+    step_by : (p z : ℕ) (h : NextHop) → Contains (route_at t z p).hops h → IsHopGiven n told z p (route_at t z p).metric h → (s : ℕ) × OwnGoesTo n told t p z s
+    step_by p z (Over l) listed given = (given.1.0, record { hop = Over l; listed = listed; link = l; means = refl; offer = given.1.1 })
+    step_by p z (Via a) listed given = (given.1.1, record { hop = Via a; listed = listed; link = given.1.0; means = given.1.2; offer = given.1.3 })
+
+    goes_on : EachOwnCanGoOn n told t
+    goes_on p z before known walk on =
+        let at = last p z before known walk in
+        elim ((route_is t are z p).way at.1) [
+          | inl here ↦ absurd (on here)
+          | inr hop ↦
+              let step = step_by p z hop.0 hop.1 ((holds z p at.0 known).given.hops hop.0 hop.1) in
+              (step.0, more p z step.0 before walk step.1)
+        ]
+
+    there : EachOwnEndsThere n told t
+    there p z before known walk here = (holds z p (last p z before known walk).0 known).given.here here
+
+    pub own_arrive : OwnPacketsArrive n told t
+    own_arrive = record { short = short; go_on = goes_on; there = there }

@@ -1,0 +1,62 @@
+-- Walks: a packet that follows the routers' own tables, over any choice of their ways.
+use Rattle.std.specs.Prelude.{◌≡◌, ℕ, ◌≤◌, ◌<◌, true, Contains, List, [], ◌∷◌, ◌++◌, length}
+use Rattle.rip_plan.specs.Network.{Network}
+use Rattle.rip_plan.specs.Relations.{IsDirect}
+use Rattle.rip_table.specs.State.{State}
+use Rattle.rip_routes.specs.OwnTables.{OwnTables, route_at}
+use Rattle.rip_routes.specs.declared.next_hop.NextHop.{NextHop}
+use Rattle.rip_routes.specs.declared.next_hop.NextHop.TheVariants.{Over, Via}
+use Rattle.rip_check.specs.OwnTells.{HasHop}
+use Rattle.rip_check.specs.Tables.{Offers}
+
+-- the next hop of router r for prefix p means neighbour s on link l
+abbrev pub Means : Network → ℕ → ℕ → NextHop → ℕ → ℕ → Type 0
+Means n r p (Over k) l s = k ≡ l
+Means n r p (Via a) l s = HasHop n r l s p a
+
+-- a packet for p can go from r to s: one of r's next hops means s, and s offers r's metric
+pub record OwnGoesTo (n : Network) (told : State) (t : OwnTables) (p r s : ℕ) : Type 0 where
+  pub hop : NextHop
+  pub listed : Contains (route_at t r p).hops hop
+  pub link : ℕ
+  pub means : Means n r p hop link s
+  pub offer : Offers n told r link s p (route_at t r p).metric
+
+-- each router goes to the next
+abbrev pub EachOwnGoesOn : Network → State → OwnTables → ℕ → ℕ → List ℕ → Type 0
+EachOwnGoesOn n told t p r [] = Unit {0}
+EachOwnGoesOn n told t p r (s ∷ rest) =
+    OwnGoesTo n told t p r s × EachOwnGoesOn n told t p s rest
+
+-- the walk has a router, the first has a metric below 16, and each goes to the next
+abbrev pub IsOwnWalk : Network → State → OwnTables → ℕ → List ℕ → Type 0
+IsOwnWalk n told t p [] = ⊥
+IsOwnWalk n told t p (r ∷ rest) =
+    (r < length n.routers) × ((route_at t r p).metric < 16) × EachOwnGoesOn n told t p r rest
+
+-- a walk has at most as many routers as its first router's metric, and at most fifteen
+abbrev pub EachOwnIsShort : Network → State → OwnTables → Type 0
+EachOwnIsShort n told t =
+    (p r : ℕ) (rest : List ℕ) → p < length t.prefixes → IsOwnWalk n told t p (r ∷ rest) →
+    (length (r ∷ rest) ≤ (route_at t r p).metric) × (length (r ∷ rest) ≤ 15)
+
+-- a walk whose last router is not its own way has a next router
+abbrev pub EachOwnCanGoOn : Network → State → OwnTables → Type 0
+EachOwnCanGoOn n told t =
+    (p z : ℕ) (before : List ℕ) → p < length t.prefixes
+    → IsOwnWalk n told t p (before ++ z ∷ []) → ((route_at t z p).here ≡ true → ⊥) →
+    (s : ℕ) × IsOwnWalk n told t p (before ++ z ∷ s ∷ [])
+
+-- where the last router of a walk is its own way, it is on a link of the prefix, or owns it
+abbrev pub EachOwnEndsThere : Network → State → OwnTables → Type 0
+EachOwnEndsThere n told t =
+    (p z : ℕ) (before : List ℕ) → p < length t.prefixes
+    → IsOwnWalk n told t p (before ++ z ∷ []) → (route_at t z p).here ≡ true →
+    IsDirect n z p (route_at t z p).metric
+
+-- whoever follows the tables arrives, over any choice of their ways, after at most as many routers
+-- as the first one's metric, which are at most fifteen
+pub record OwnPacketsArrive (n : Network) (told : State) (t : OwnTables) : Type 0 where
+  pub short : EachOwnIsShort n told t
+  pub go_on : EachOwnCanGoOn n told t
+  pub there : EachOwnEndsThere n told t
