@@ -11,10 +11,12 @@ mod least;
 mod links;
 mod lookup;
 mod offers;
+
 mod own_verdict;
 mod places;
 mod routes;
 mod surveys;
+mod told_table;
 mod unsettled;
 mod untouched;
 mod verdict;
