@@ -1,5 +1,7 @@
 -- The table of what routers tell, by their own tables: a cell for each prefix and interface.
-use Rattle.std.specs.Prelude.{◌≡◌, ◌≢◌, ◌==◌, ℕ, ◌<◌, ◌≤◌, ◌⊎◌, Bool, true, false, Decides, Option, None, Some, List, if◌then◌else◌, option_and_then, length, slice_get, slice_index, slice_index_or}
+use Rattle.std.specs.declared.vec.Vec.{Vec}
+use Rattle.std.specs.declared.alloc.Global.{Global}
+use Rattle.std.specs.Prelude.{◌≡◌, ◌≢◌, ◌==◌, ℕ, zero, suc, ◌<◌, ◌≤◌, ◌⊎◌, Bool, true, false, Decides, Option, None, Some, List, if◌then◌else◌, option_and_then, length, map, slice_get, slice_index, slice_index_or}
 use Rattle.rip_wire.specs.Prefix.{Block}
 use Rattle.rip_plan.specs.Network.{Network, number_of_prefix}
 use Rattle.rip_plan.specs.Relations.{IsAttached, IsInterface}
@@ -9,7 +11,8 @@ use Rattle.rip_check.specs.OwnTells.{HasHopAt, IsMute, SendsOver}
 
 -- what a cell shows: nothing for 0, else its metric
 abbrev pub shown_by : ℕ → Option ℕ
-shown_by v = if v == 0 then None else Some v
+shown_by zero = None
+shown_by (suc v) = Some (suc v)
 
 -- what the cell of prefix k and interface i shows
 abbrev pub cell_at : List (List ℕ) → ℕ → ℕ → Option ℕ
@@ -62,5 +65,5 @@ pub record IsFirstAcross (n : Network) (r l p a j : ℕ) : Type 0 where
   pub before : (i s : ℕ) → i < j → HasHopAt n i s l p a → s ≡ r
 
 -- the rows of cells
-abbrev pub rows_of : List (Vec ℕ) → List (List ℕ)
+abbrev pub rows_of : List (Vec ℕ Global) → List (List ℕ)
 rows_of rows = map (λ row. row.items) rows

@@ -6,7 +6,7 @@ ghost use Rattle.rip_plan.specs.Relations.{HasCost, IsAttached, IsGateway, IsInt
 ghost use Rattle.rip_table.specs.State.{Fits, IsState};
 ghost use Rattle.rip_routes.specs.OwnTables.{FitsOwn, route_at};
 ghost use Rattle.rip_check.specs.OwnTells.{HasHopAt, IsHadOn, IsMute, IsOver, IsToldBy, SendsOver};
-ghost use Rattle.rip_check.specs.ToldCells.{AreMarks, AreToldRows, IsFirstAcross, IsHereOn, IsRowBelow, IsToldRow, told_state};
+ghost use Rattle.rip_check.specs.ToldCells.{AreMarks, AreToldRows, IsFirstAcross, IsHereOn, IsRowBelow, IsToldRow, rows_of, told_state};
 
 use crate::lookup::metric_of;
 use rip_plan::{Interface, MOST_LINKS, Plan};
@@ -222,6 +222,22 @@ fn write_row<G: RouteTables>(plan: &Plan, tables: &G, prefix: usize, row: &mut [
     }
 }
 
+/// What all routers tell of a prefix, by interface.
+fn told_row<G: RouteTables>(
+    alloc: Global,
+    plan: &Plan,
+    tables: &G,
+    prefix: usize,
+) -> Result<Vec<u8>, AllocError>
+    requires fits { FitsOwn plan.now (G.tables tables.now) }
+    requires prefix { prefix < length (G.tables tables.now).prefixes }
+    ensures { IfOk result (λ row. IsToldRow plan.now (G.tables tables.now) prefix row.items) }
+{
+    let mut row = vec![in alloc; 0u8; plan.interfaces()]?;
+    write_row(plan, tables, prefix, row.as_mut_slice());
+    Ok(row)
+}
+
 /// The table of what the routers of a plan tell each other, by their own tables: split horizon, by
 /// link. No interface counts as heard, so that nothing is nothing, whether an interface poisons or
 /// not.
@@ -280,9 +296,7 @@ impl<'a, G: RouteTables> ToldTable<'a, G> {
         plan.lawful();
         let mut rows = Vec::with_capacity(alloc, tables.prefix_count())?;
         for prefix in 0..tables.prefix_count() {
-            let mut row = vec![in alloc; 0u8; plan.interfaces()]?;
-            write_row(plan, tables, prefix, row.as_mut_slice());
-            rows.push_reserved(row);
+            rows.push_reserved(told_row(alloc, plan, tables, prefix)?);
         }
         Ok(ToldTable {
             tables,
