@@ -1,10 +1,13 @@
 -- Who has an address of a next hop.
-use Rattle.std.proofs.Common.{◌≡◌, ◌≢◌, ◌↔◌, ℕ, ◌+◌, ◌<◌, ◌≤◌, ◌⊎◌, inl, inr, List, Option, None, Some, Contains, get_or, length, refl, sym, ap, ◌∙◌, arith}
+use Rattle.std.proofs.Common.{◌≡◌, ◌≢◌, ◌↔◌, ℕ, ◌+◌, ◌<◌, ◌≤◌, ◌⊎◌, inl, inr, List, Option, None, Some, Contains, get_or, min, unwrap_or, length, refl, sym, ap, ◌∙◌, arith}
 use Rattle.std.proofs.lemmas.Bool.{cases_lt}
 use Rattle.std.specs.List.Sorted.{IsStrictlyIncreasing}
 use Rattle.rip_plan.specs.Network.{Network}
-use Rattle.rip_plan.specs.Relations.{HasCost, IsInterface, IsLawful}
+use Rattle.rip_plan.specs.Relations.{HasCost, IsInterface, IsLawful, IsNeighbour}
 use Rattle.rip_plan.specs.declared.parts.Interface.{Interface}
+use Rattle.rip_table.specs.State.{State}
+use Rattle.rip_check.specs.Metrics.{metric_at}
+use Rattle.rip_check.specs.Tables.{Offers}
 use Rattle.rip_check.specs.OwnTells.{HasHop, HasHopAt, IsHadOn}
 use Rattle.rip_check.specs.ToldCells.{IsFirstAcross}
 use Rattle.rip_check.proofs.AcrossLemmas.{across_own, across_place}
@@ -112,3 +115,29 @@ module _ (n : Network) (r p a : ℕ) (numbers : List ℕ) (exact : (i : ℕ) →
       back : (found : Option ℕ) → IsOneSoFar n r p a numbers k found → IsHadOn n r p a l × ((q : ℕ) → IsHadOn n r p a q → q ≡ l) → found ≡ Some l
       back None was h = absurd (every n r numbers exact (λ j q. IsHadOn n r p a q → ⊥) k end (was.none refl) (its l h.0).0 l (its l h.0).1 (its l h.0).2 h.0)
       back (Some m) was h = ap Some (h.1 m (was.some m refl).1)
+
+-- interface j is of another router s than r on link l, which has the address and offers the metric over an interface of this cost
+pub record OffersAt (n : Network) (told : State) (r l p a m cost j s : ℕ) : Type 0 where
+  pub other : s ≢ r
+  pub has : HasHopAt n j s l p a
+  pub value : m ≡ min 16 (cost + unwrap_or (metric_at told j p) 16)
+
+module _ (n : Network) (told : State) (r l p a m cost : ℕ) (plan : IsLawful n) (own : HasCost n r l cost) where
+  pub to_offer : (j s : ℕ) → OffersAt n told r l p a m cost j s → HasHop n r l s p a × Offers n told r l s p m
+  to_offer j s at =
+      let neighbour : IsNeighbour n r l s = record { other = at.other; here = (cost, own); there = (at.has.0.0, (j, at.has.0.1)) } in (
+        record { neighbour = neighbour; has = (j, at.has) },
+        record { neighbour = neighbour; cost = cost; here = own; interface = j; its_cost = at.has.0.0; there = at.has.0.1; value = at.value },
+      )
+
+  pub from_offer : (s : ℕ) → HasHop n r l s p a → (o : Offers n told r l s p m) → OffersAt n told r l p a m cost o.interface s
+  from_offer s hop o =
+      let mine = plan.one_on_link own.0 o.here.0 r l cost o.cost own.1 o.here.1 in
+      let here : IsInterface n own.0 r l o.cost = rw (sym mine) at o.here.1 in
+      let cost_is : o.cost ≡ cost = (its_link n own.0 r l o.cost r l cost here own.1).2 in
+      let its = plan.one_on_link hop.has.0 o.interface s l hop.has.1.0.0 o.its_cost hop.has.1.0.1 o.there in
+      record {
+        other = hop.neighbour.other;
+        has = rw its at hop.has.1;
+        value = rw cost_is at o.value;
+      }

@@ -51,17 +51,18 @@ pub record IsFirstWrongHop
       → IsHopGiven n told r p route.metric h
   pub wrong : IsWrongHop n r p hop w
 
+-- the first way of the route that does not give its metric is wrong in this way
+abbrev pub IsWrongWay : Network → State → ℕ → ℕ → OwnRoute → Wrong → Type 0
+IsWrongWay n told r p route w =
+    ((route.here ≡ true) × (IsDirect n r p route.metric → ⊥) × (w ≡ Here))
+    ⊎ ((route.here ≡ true → IsDirect n r p route.metric) × IsFirstWrongHop n told r p route w)
+
 -- What is wrong with a route: its metric is not the equation; or else its first way that does not
 -- give it, the router itself before its next hops.
 abbrev pub IsWrong : Network → State → ℕ → ℕ → OwnRoute → Wrong → Type 0
-IsWrong n told r p route (Metric e) = IsLeastChoice n told r p e × (route.metric ≢ e)
-IsWrong n told r p route Here =
-    IsLeastChoice n told r p route.metric
-    × (route.here ≡ true) × (IsDirect n r p route.metric → ⊥)
 IsWrong n told r p route w =
-    IsLeastChoice n told r p route.metric
-    × (route.here ≡ true → IsDirect n r p route.metric)
-    × IsFirstWrongHop n told r p route w
+    ((e : ℕ) × IsLeastChoice n told r p e × (route.metric ≢ e) × (w ≡ Metric e))
+    ⊎ (IsLeastChoice n told r p route.metric × IsWrongWay n told r p route w)
 
 -- the place holds
 abbrev pub IsOwnSound : Network → State → OwnTables → ℕ → ℕ → Type 0
@@ -84,6 +85,21 @@ pub record IsNextWrong
 -- every place after the given one, if one is given, holds
 abbrev pub OwnHoldsAfter : Network → State → OwnTables → Option (ℕ × ℕ) → Type 0
 OwnHoldsAfter n told t after = AreFine n (length t.prefixes) after (IsOwnSound n told t)
+
+-- the first place of router r, from a prefix on, that does not hold
+pub record IsWrongInRow
+    (n : Network) (told : State) (t : OwnTables) (r from : ℕ) (place : OwnPlace)
+    : Type 0 where
+  pub router : place.router ≡ r
+  pub from_on : from ≤ place.prefix
+  pub below : place.prefix < length t.prefixes
+  pub before : (q : ℕ) → from ≤ q → q < place.prefix → IsOwnSound n told t r q
+  pub values : IsOwnFailing n told t place
+
+-- the given place, if one is given, has one of so many prefixes
+abbrev pub IsKnownOf : ℕ → Option (ℕ × ℕ) → Type 0
+IsKnownOf count None = Unit {0}
+IsKnownOf count (Some a) = a.1 < count
 
 -- router r is the first from one on of which nothing is told
 pub record IsNextUnlisted (n : Network) (t : OwnTables) (from r : ℕ) : Type 0 where

@@ -12,6 +12,7 @@ mod links;
 mod lookup;
 mod offers;
 
+mod own_audit;
 mod own_verdict;
 mod places;
 mod routes;
@@ -29,8 +30,10 @@ pub use expected::Expected;
 pub use failures::Failure;
 pub use least::least_metric;
 pub use offers::offer;
+pub use own_audit::{judge_own, next_unlisted, next_wrong};
 pub use own_verdict::{OwnPlace, OwnVerdict, Wrong};
 pub use places::{equation, route};
+pub use told_table::ToldTable;
 pub use unsettled::Unsettled;
 pub use verdict::{Place2, Route, Unclear, Verdict};
 pub use way::Way;

@@ -29,7 +29,7 @@ fn gateway_at(plan: &Plan, router: usize, prefix: usize) -> Option<Address>
 
 /// Whether an interface has an address for a prefix: as its own, or as the gateway that its router
 /// tells as next hop of its own prefix.
-fn has_hop_at(plan: &Plan, across: usize, address: Address, prefix: usize) -> bool
+pub(crate) fn has_hop_at(plan: &Plan, across: usize, address: Address, prefix: usize) -> bool
     requires { across < length plan.now.interfaces }
     ensures { (s l c : ℕ) → IsInterface plan.now across s l c →
         Decides result (HasHopAt plan.now across s l prefix address) }

@@ -1,0 +1,387 @@
+//! The verdict on the routers' own tables.
+
+ghost use Rattle.std.specs.Prelude.{◌≡◌, ◌≢◌, ◌↔◌, ℕ, ◌+◌, ◌≤◌, ◌<◌, Decides, IfNone, Contains, IfSome, None, Some, length, slice_get, true};
+ghost use Rattle.rip_plan.specs.Relations.{HasCost, IsDirect, IsKept};
+ghost use Rattle.rip_table.specs.State.{Fits};
+ghost use Rattle.rip_routes.specs.OwnTables.{FitsOwn, route_at};
+ghost use Rattle.rip_check.specs.Cases.{At, network_of, told_in};
+ghost use Rattle.rip_check.specs.Firsts.{IsFirstAt, IsFirstOf};
+ghost use Rattle.rip_check.specs.OwnSettled.{AreRightTables, EachOwnHolds, IsHopGiven, OwnHolds};
+ghost use Rattle.rip_check.specs.OwnTells.{HasHop, IsToldBy};
+ghost use Rattle.rip_check.specs.OwnVerdicts.{IsFirstHad, IsFirstWrongHop, IsKnownOf, IsNextUnlisted, IsNextWrong, IsOwnFailing, IsOwnSound, IsOwnVerdict, IsWrong, IsWrongHop, IsWrongInRow, OwnHoldsAfter};
+ghost use Rattle.rip_check.specs.OwnWalks.{OwnPacketsArrive};
+ghost use Rattle.rip_check.specs.Settled.{IsChoice};
+ghost use Rattle.rip_check.specs.Tables.{Offers};
+ghost use Rattle.rip_check.specs.Told.{told};
+
+use crate::case::Case;
+use crate::links::{NOTHING, fill, seen_at};
+use crate::lookup::metric_of;
+use crate::offers::least_choice;
+use crate::own_verdict::{OwnPlace, OwnVerdict, Wrong};
+use crate::places::{is_direct, is_offered};
+use crate::told_table::{first_across, has_hop_at};
+use rip_plan::{Interface, MOST_LINKS, Plan};
+use rip_routes::{NextHop, RouteTables};
+use rip_table::Table;
+use rip_wire::Address;
+
+/// The first neighbour of a router that has an address for a prefix: the link and the neighbour, by
+/// the router's interfaces, and then by those of the link.
+fn first_had(plan: &Plan, router: usize, address: Address, prefix: usize) -> Option<(usize, usize)>
+    requires { router < length plan.now.routers }
+    ensures some { IfSome result (λ had.
+        IsFirstHad plan.now router prefix address had.0 had.1) }
+    ensures none { IfNone result ((l s : ℕ) → HasHop plan.now router l s prefix address → ⊥) }
+{
+    plan.lawful();
+    let numbers = plan.of_router(router);
+    for i in numbers {
+        let own = plan.interface(*i);
+        let link = own.link;
+        match first_across(plan, own, address, prefix) {
+            Some(across) => {
+                let neighbour = plan.interface(across).router;
+                return Some((link, neighbour));
+            }
+            None => {}
+        }
+    }
+    None
+}
+
+/// What is wrong with a next hop that does not give its metric.
+fn wrong_hop(plan: &Plan, router: usize, hop: &NextHop, prefix: usize) -> Wrong
+    requires { router < length plan.now.routers }
+    ensures { IsWrongHop plan.now router prefix hop.now result }
+{
+    match hop {
+        NextHop::Over(link) => Wrong::Over(*link),
+        NextHop::Via(address) => match first_had(plan, router, *address, prefix) {
+            Some((link, neighbour)) => Wrong::Neighbour {
+                router: neighbour,
+                link,
+            },
+            None => Wrong::Nobody(*address),
+        },
+    }
+}
+
+/// Whether a neighbour on the link of an interface has an address and offers a metric.
+fn is_offered_across<T: Table>(
+    case: &Case<'_, T>,
+    own: Interface,
+    address: Address,
+    metric: u32,
+) -> bool
+    requires { HasCost (network_of case.now) own.router own.link own.cost }
+    ensures { Decides result ((s : ℕ)
+        × HasHop (network_of case.now) own.router own.link s case.now.prefix address
+        × Offers (network_of case.now) (told_in case.now) own.router own.link s case.now.prefix
+        metric) }
+{
+    case.plan.lawful();
+    let numbers = case.plan.on_link(own.link);
+    for j in numbers {
+        let across = case.plan.interface(*j);
+        if across.router != own.router && has_hop_at(case.plan, *j, address, case.prefix) {
+            let offer = (u32::from(own.cost) + seen_at(case, *j)).min(16);
+            if offer == metric {
+                return true;
+            }
+        }
+    }
+    false
+}
+
+/// Whether a neighbour that has an address offers a metric.
+fn is_offered_by<T: Table>(
+    case: &Case<'_, T>,
+    router: usize,
+    address: Address,
+    metric: u32,
+) -> bool
+    requires { router < length (network_of case.now).routers }
+    ensures { Decides result ((l s : ℕ)
+        × HasHop (network_of case.now) router l s case.now.prefix address
+        × Offers (network_of case.now) (told_in case.now) router l s case.now.prefix metric) }
+{
+    let numbers = case.plan.of_router(router);
+    for i in numbers {
+        let own = case.plan.interface(*i);
+        if is_offered_across(case, own, address, metric) {
+            return true;
+        }
+    }
+    false
+}
+
+/// Whether a neighbour that a next hop means offers a metric, the least choice of a router that does
+/// not keep the prefix.
+fn is_hop_given<T: Table>(
+    case: &Case<'_, T>,
+    router: usize,
+    keeps: bool,
+    metric: u32,
+    hop: &NextHop,
+) -> bool
+    requires router { router < length (network_of case.now).routers }
+    requires keeps { Decides keeps (IsKept (network_of case.now) router case.now.prefix) }
+    requires small { metric < 16 }
+    requires least { (v : ℕ) → At case.now IsChoice router v → metric ≤ v }
+    ensures { Decides result (At case.now IsHopGiven router metric hop.now) }
+{
+    if keeps {
+        return false;
+    }
+    match hop {
+        NextHop::Over(link) => is_offered(case, router, metric, *link),
+        NextHop::Via(address) => is_offered_by(case, router, *address, metric),
+    }
+}
+
+/// What is wrong with the first next hop of a router that does not give its metric, the least
+/// choice.
+fn first_wrong_hop<T: Table, G: RouteTables>(
+    case: &Case<'_, T>,
+    tables: &G,
+    router: usize,
+    keeps: bool,
+    metric: u32,
+) -> Option<Wrong>
+    requires router { router < length (network_of case.now).routers }
+    requires prefix { case.now.prefix < length (G.tables tables.now).prefixes }
+    requires keeps { Decides keeps (IsKept (network_of case.now) router case.now.prefix) }
+    requires metric { metric ≡ (route_at (G.tables tables.now) router case.now.prefix).metric }
+    requires least { (v : ℕ) → At case.now IsChoice router v → metric ≤ v }
+    ensures some { IfSome result (At case.now IsFirstWrongHop router
+        (route_at (G.tables tables.now) router case.now.prefix)) }
+    ensures none { IfNone result ((h : NextHop) →
+        Contains (route_at (G.tables tables.now) router case.now.prefix).hops h →
+        At case.now IsHopGiven router metric h) }
+{
+    let hops = tables.next_hops(router, case.prefix);
+    for hop in hops {
+        if !is_hop_given(case, router, keeps, metric, hop) {
+            return Some(wrong_hop(case.plan, router, hop, case.prefix));
+        }
+    }
+    None
+}
+
+/// What is wrong with the route of a router, if it does not hold.
+fn wrong_at<T: Table, G: RouteTables>(
+    case: &Case<'_, T>,
+    tables: &G,
+    router: usize,
+) -> Option<Wrong>
+    requires router { router < length (network_of case.now).routers }
+    requires prefix { case.now.prefix < length (G.tables tables.now).prefixes }
+    ensures some { IfSome result (At case.now IsWrong router
+        (route_at (G.tables tables.now) router case.now.prefix)) }
+    ensures none { IfNone result (At case.now OwnHolds router
+        (route_at (G.tables tables.now) router case.now.prefix)) }
+{
+    case.plan.lawful();
+    let keeps = case.plan.keeps(router, case.prefix);
+    let equation = least_choice(case, router, keeps);
+    let metric = tables.metric(router, case.prefix).get();
+    if metric != equation {
+        return Some(Wrong::Metric(metric_of(equation)));
+    }
+    if tables.is_here(router, case.prefix)
+        && !is_direct(case.plan, router, case.prefix, metric)
+    {
+        return Some(Wrong::Here);
+    }
+    first_wrong_hop(case, tables, router, keeps, metric)
+}
+
+/// The first router below a bound whose route of the prefix does not hold.
+fn first_wrong_router<T: Table, G: RouteTables>(
+    case: &Case<'_, T>,
+    tables: &G,
+    below: usize,
+) -> Option<usize>
+    requires below { below ≤ length (network_of case.now).routers }
+    requires prefix { case.now.prefix < length (G.tables tables.now).prefixes }
+    ensures { IsFirstOf below (λ r. At case.now OwnHolds r
+        (route_at (G.tables tables.now) r case.now.prefix)) result }
+{
+    for router in 0..below {
+        match wrong_at(case, tables, router) {
+            Some(_) => return Some(router),
+            None => {}
+        }
+    }
+    None
+}
+
+/// The first place that does not hold, if there is one: a router and a prefix, by router and then
+/// by prefix.
+type WrongPlace = Option<(usize, usize)>;
+
+/// The first place that does not hold, with the places of the next prefix.
+fn with_prefix<T: Table, G: RouteTables>(
+    case: &Case<'_, T>,
+    tables: &G,
+    found: WrongPlace,
+) -> WrongPlace
+    requires prefix { case.now.prefix < length (G.tables tables.now).prefixes }
+    requires found { IsFirstAt (network_of case.now) case.now.prefix
+        (IsOwnSound (network_of case.now) (told_in case.now) (G.tables tables.now)) found }
+    ensures { IsFirstAt (network_of case.now) (case.now.prefix + 1)
+        (IsOwnSound (network_of case.now) (told_in case.now) (G.tables tables.now)) result }
+{
+    case.plan.lawful();
+    let below = match found {
+        Some((router, _)) => router,
+        None => case.plan.routers(),
+    };
+    match first_wrong_router(case, tables, below) {
+        Some(router) => Some((router, case.prefix)),
+        None => found,
+    }
+}
+
+/// The first place that does not hold. This goes prefix by prefix, so that the two least metrics of
+/// each link are found once for all routers.
+fn first_wrong_place<T: Table, G: RouteTables>(plan: &Plan, tables: &G, table: &T) -> WrongPlace
+    requires fits { Fits plan.now (T.state table.now) }
+    requires prefixes { (T.state table.now).prefixes ≡ (G.tables tables.now).prefixes }
+    ensures { IsFirstAt plan.now (length (G.tables tables.now).prefixes)
+        (IsOwnSound plan.now (told plan.now (T.state table.now)) (G.tables tables.now)) result }
+{
+    plan.lawful();
+    let mut room = [NOTHING; MOST_LINKS];
+    let links = &mut room[..plan.links()];
+    let mut found = None;
+    for prefix in 0..table.prefix_count() {
+        let case = Case::new(plan, table, prefix);
+        fill(&case, links);
+        found = with_prefix(&case.with_links(links), tables, found);
+    }
+    found
+}
+
+/// The first router from one on of whose table nothing is told.
+pub fn next_unlisted<G: RouteTables>(plan: &Plan, tables: &G, from: usize) -> Option<usize>
+    ensures some { IfSome result (IsNextUnlisted plan.now (G.tables tables.now) from) }
+    ensures none { IfNone result ((r : ℕ) → from ≤ r → r < length plan.now.routers →
+        (G.tables tables.now).listed r ≡ true) }
+{
+    for router in from..plan.routers() {
+        if !tables.is_listed(router) {
+            return Some(router);
+        }
+    }
+    None
+}
+
+/// The place of a router, if it does not hold.
+fn wrong_place<T: Table, G: RouteTables>(
+    case: &Case<'_, T>,
+    tables: &G,
+    router: usize,
+) -> Option<OwnPlace>
+    requires router { router < length (network_of case.now).routers }
+    requires prefix { case.now.prefix < length (G.tables tables.now).prefixes }
+    ensures some { IfSome result (λ place. (place.router ≡ router)
+        × (place.prefix ≡ case.now.prefix)
+        × IsOwnFailing (network_of case.now) (told_in case.now) (G.tables tables.now) place) }
+    ensures none { IfNone result (At case.now OwnHolds router
+        (route_at (G.tables tables.now) router case.now.prefix)) }
+{
+    match wrong_at(case, tables, router) {
+        Some(wrong) => Some(OwnPlace {
+            router,
+            prefix: case.prefix,
+            metric: tables.metric(router, case.prefix),
+            wrong,
+        }),
+        None => None,
+    }
+}
+
+/// The first place of a router, from a prefix on, that does not hold.
+fn wrong_in_row<T: Table, G: RouteTables>(
+    plan: &Plan,
+    tables: &G,
+    table: &T,
+    router: usize,
+    from: usize,
+) -> Option<OwnPlace>
+    requires fits { Fits plan.now (T.state table.now) }
+    requires prefixes { (T.state table.now).prefixes ≡ (G.tables tables.now).prefixes }
+    requires router { router < length plan.now.routers }
+    ensures some { IfSome result (IsWrongInRow plan.now (told plan.now (T.state table.now))
+        (G.tables tables.now) router from) }
+    ensures none { IfNone result ((q : ℕ) → from ≤ q →
+        q < length (G.tables tables.now).prefixes →
+        IsOwnSound plan.now (told plan.now (T.state table.now)) (G.tables tables.now) router
+        q) }
+{
+    for prefix in from..table.prefix_count() {
+        if let Some(found) = wrong_place(&Case::new(plan, table, prefix), tables, router) {
+            return Some(found);
+        }
+    }
+    None
+}
+
+/// The first place after the given one, by router and then by prefix, that does not hold. The given
+/// place, if there is one, has a prefix of the tables.
+pub fn next_wrong<T: Table, G: RouteTables>(
+    plan: &Plan,
+    tables: &G,
+    table: &T,
+    after: Option<(usize, usize)>,
+) -> Option<OwnPlace>
+    requires fits { Fits plan.now (T.state table.now) }
+    requires told { IsToldBy plan.now (G.tables tables.now) (T.state table.now) }
+    requires known { IsKnownOf (length (G.tables tables.now).prefixes) after }
+    ensures some { IfSome result (IsNextWrong plan.now (T.state table.now) (G.tables tables.now)
+        after) }
+    ensures none { IfNone result (OwnHoldsAfter plan.now (T.state table.now)
+        (G.tables tables.now) after) }
+{
+    let (row, start) = match after {
+        None => (0, 0),
+        Some((router, prefix)) => (router, prefix + 1),
+    };
+    let mut from = start;
+    for router in row..plan.routers() {
+        if let Some(found) = wrong_in_row(plan, tables, table, router, from) {
+            return Some(found);
+        }
+        from = 0;
+    }
+    None
+}
+
+/// The verdict on the routers' own tables, by what they tell. Settled is answered exactly where
+/// something is told of each router, every metric is the least cost of a path, or 16, and each way
+/// goes over a least path; then what follows them arrives, over any choice of the ways. Unsettled
+/// names the first place that does not hold, by router and then by prefix, and NoRoutes the first
+/// router of which nothing is told.
+pub fn judge_own<T: Table, G: RouteTables>(plan: &Plan, tables: &G, table: &T) -> OwnVerdict
+    requires fits { Fits plan.now (T.state table.now) }
+    requires told { IsToldBy plan.now (G.tables tables.now) (T.state table.now) }
+    ensures settled { (result ≡ OwnVerdict.Settled)
+        ↔ AreRightTables plan.now (G.tables tables.now) }
+    ensures verdict { IsOwnVerdict plan.now (T.state table.now) (G.tables tables.now) result }
+    ensures arrive { result ≡ OwnVerdict.Settled →
+        OwnPacketsArrive plan.now (T.state table.now) (G.tables tables.now) }
+{
+    plan.lawful();
+    if let Some(router) = next_unlisted(plan, tables, 0) {
+        return OwnVerdict::NoRoutes(router);
+    }
+    match first_wrong_place(plan, tables, table) {
+        Some((router, prefix)) => {
+            let place = wrong_place(&Case::new(plan, table, prefix), tables, router);
+            OwnVerdict::Unsettled(place.unwrap())
+        }
+        None => OwnVerdict::Settled,
+    }
+}
