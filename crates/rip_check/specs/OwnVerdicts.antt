@@ -82,25 +82,6 @@ pub record IsNextWrong
       place.router place.prefix
   pub values : IsOwnFailing n told t place
 
--- every place after the given one, if one is given, holds
-abbrev pub OwnHoldsAfter : Network → State → OwnTables → Option (ℕ × ℕ) → Type 0
-OwnHoldsAfter n told t after = AreFine n (length t.prefixes) after (IsOwnSound n told t)
-
--- the first place of router r, from a prefix on, that does not hold
-pub record IsWrongInRow
-    (n : Network) (told : State) (t : OwnTables) (r from : ℕ) (place : OwnPlace)
-    : Type 0 where
-  pub router : place.router ≡ r
-  pub from_on : from ≤ place.prefix
-  pub below : place.prefix < length t.prefixes
-  pub before : (q : ℕ) → from ≤ q → q < place.prefix → IsOwnSound n told t r q
-  pub values : IsOwnFailing n told t place
-
--- the given place, if one is given, has one of so many prefixes
-abbrev pub IsKnownOf : ℕ → Option (ℕ × ℕ) → Type 0
-IsKnownOf count None = Unit {0}
-IsKnownOf count (Some a) = a.1 < count
-
 -- router r is the first from one on of which nothing is told
 pub record IsNextUnlisted (n : Network) (t : OwnTables) (from r : ℕ) : Type 0 where
   pub from_on : from ≤ r

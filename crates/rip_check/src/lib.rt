@@ -30,7 +30,7 @@ pub use expected::Expected;
 pub use failures::Failure;
 pub use least::least_metric;
 pub use offers::offer;
-pub use own_audit::{judge_own, next_unlisted, next_wrong};
+pub use own_audit::{judge_own, next_unlisted};
 pub use own_verdict::{OwnPlace, OwnVerdict, Wrong};
 pub use places::{equation, route};
 pub use told_table::ToldTable;

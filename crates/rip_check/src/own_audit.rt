@@ -8,7 +8,7 @@ ghost use Rattle.rip_check.specs.Cases.{At, network_of, told_in};
 ghost use Rattle.rip_check.specs.Firsts.{IsFirstAt, IsFirstOf};
 ghost use Rattle.rip_check.specs.OwnSettled.{AreRightTables, EachOwnHolds, IsHopGiven, OwnHolds};
 ghost use Rattle.rip_check.specs.OwnTells.{HasHop, IsToldBy};
-ghost use Rattle.rip_check.specs.OwnVerdicts.{IsFirstHad, IsFirstWrongHop, IsKnownOf, IsNextUnlisted, IsNextWrong, IsOwnFailing, IsOwnSound, IsOwnVerdict, IsWrong, IsWrongHop, IsWrongInRow, OwnHoldsAfter};
+ghost use Rattle.rip_check.specs.OwnVerdicts.{IsFirstHad, IsFirstWrongHop, IsNextUnlisted, IsNextWrong, IsOwnFailing, IsOwnSound, IsOwnVerdict, IsWrong, IsWrongHop};
 ghost use Rattle.rip_check.specs.OwnWalks.{OwnPacketsArrive};
 ghost use Rattle.rip_check.specs.Settled.{IsChoice};
 ghost use Rattle.rip_check.specs.Tables.{Offers};
@@ -278,85 +278,29 @@ pub fn next_unlisted<G: RouteTables>(plan: &Plan, tables: &G, from: usize) -> Op
     None
 }
 
-/// The place of a router, if it does not hold.
-fn wrong_place<T: Table, G: RouteTables>(
-    case: &Case<'_, T>,
-    tables: &G,
-    router: usize,
-) -> Option<OwnPlace>
-    requires router { router < length (network_of case.now).routers }
-    requires prefix { case.now.prefix < length (G.tables tables.now).prefixes }
-    ensures some { IfSome result (λ place. (place.router ≡ router)
-        × (place.prefix ≡ case.now.prefix)
-        × IsOwnFailing (network_of case.now) (told_in case.now) (G.tables tables.now) place) }
-    ensures none { IfNone result (At case.now OwnHolds router
-        (route_at (G.tables tables.now) router case.now.prefix)) }
-{
-    match wrong_at(case, tables, router) {
-        Some(wrong) => Some(OwnPlace {
-            router,
-            prefix: case.prefix,
-            metric: tables.metric(router, case.prefix),
-            wrong,
-        }),
-        None => None,
-    }
-}
-
-/// The first place of a router, from a prefix on, that does not hold.
-fn wrong_in_row<T: Table, G: RouteTables>(
-    plan: &Plan,
-    tables: &G,
-    table: &T,
-    router: usize,
-    from: usize,
-) -> Option<OwnPlace>
-    requires fits { Fits plan.now (T.state table.now) }
-    requires prefixes { (T.state table.now).prefixes ≡ (G.tables tables.now).prefixes }
-    requires router { router < length plan.now.routers }
-    ensures some { IfSome result (IsWrongInRow plan.now (told plan.now (T.state table.now))
-        (G.tables tables.now) router from) }
-    ensures none { IfNone result ((q : ℕ) → from ≤ q →
-        q < length (G.tables tables.now).prefixes →
-        IsOwnSound plan.now (told plan.now (T.state table.now)) (G.tables tables.now) router
-        q) }
-{
-    for prefix in from..table.prefix_count() {
-        if let Some(found) = wrong_place(&Case::new(plan, table, prefix), tables, router) {
-            return Some(found);
+impl<T: Table> Case<'_, T> {
+    /// The place of a router in the routers' own tables, and what is wrong there, if it does not
+    /// hold. The table of the case is that of what the routers tell.
+    pub fn wrong<G: RouteTables>(&self, tables: &G, router: usize) -> Option<OwnPlace>
+        requires router { router < length (network_of self.now).routers }
+        requires prefix { self.now.prefix < length (G.tables tables.now).prefixes }
+        ensures some { IfSome result (λ place. (place.router ≡ router)
+            × (place.prefix ≡ self.now.prefix)
+            × IsOwnFailing (network_of self.now) (told_in self.now) (G.tables tables.now) place) }
+        ensures none { IfNone result
+            (IsOwnSound (network_of self.now) (told_in self.now) (G.tables tables.now) router
+            self.now.prefix) }
+    {
+        match wrong_at(self, tables, router) {
+            Some(wrong) => Some(OwnPlace {
+                router,
+                prefix: self.prefix,
+                metric: tables.metric(router, self.prefix),
+                wrong,
+            }),
+            None => None,
         }
     }
-    None
-}
-
-/// The first place after the given one, by router and then by prefix, that does not hold. The given
-/// place, if there is one, has a prefix of the tables.
-pub fn next_wrong<T: Table, G: RouteTables>(
-    plan: &Plan,
-    tables: &G,
-    table: &T,
-    after: Option<(usize, usize)>,
-) -> Option<OwnPlace>
-    requires fits { Fits plan.now (T.state table.now) }
-    requires told { IsToldBy plan.now (G.tables tables.now) (T.state table.now) }
-    requires known { IsKnownOf (length (G.tables tables.now).prefixes) after }
-    ensures some { IfSome result (IsNextWrong plan.now (T.state table.now) (G.tables tables.now)
-        after) }
-    ensures none { IfNone result (OwnHoldsAfter plan.now (T.state table.now)
-        (G.tables tables.now) after) }
-{
-    let (row, start) = match after {
-        None => (0, 0),
-        Some((router, prefix)) => (router, prefix + 1),
-    };
-    let mut from = start;
-    for router in row..plan.routers() {
-        if let Some(found) = wrong_in_row(plan, tables, table, router, from) {
-            return Some(found);
-        }
-        from = 0;
-    }
-    None
 }
 
 /// The verdict on the routers' own tables, by what they tell. Settled is answered exactly where
@@ -379,7 +323,7 @@ pub fn judge_own<T: Table, G: RouteTables>(plan: &Plan, tables: &G, table: &T) -
     }
     match first_wrong_place(plan, tables, table) {
         Some((router, prefix)) => {
-            let place = wrong_place(&Case::new(plan, table, prefix), tables, router);
+            let place = Case::new(plan, table, prefix).wrong(tables, router);
             OwnVerdict::Unsettled(place.unwrap())
         }
         None => OwnVerdict::Settled,

@@ -10,7 +10,7 @@ use Rattle.rip_check.proofs.own_audit.judge_own.Goals as goal
 pub unwrap-requires : goal.unwrap-requires
 unwrap-requires g c =
     let first = rw c.in-Some-first_wrong_place.is at c.first_wrong_place.ensures in
-    some_place _ c.wrong_place-place.result (rw (c.new.ensures.plan, c.new.ensures.table, c.new.ensures.prefix) at c.wrong_place-place.ensures.none) first.fails
+    some_place _ c.wrong-place.result (rw (c.new.ensures.plan, c.new.ensures.table, c.new.ensures.prefix) at c.wrong-place.ensures.none) first.fails
 
 pub returns-in-Some-first_wrong_place-clause-verdict : goal.returns-in-Some-first_wrong_place-clause-verdict
 returns-in-Some-first_wrong_place-clause-verdict g c =
@@ -19,7 +19,7 @@ returns-in-Some-first_wrong_place-clause-verdict g c =
     let t = g.G.RouteTables.tables c.args.tables.now in
     let same = told_unheard n state c.requires.told.unheard in
     let first = rw c.in-Some-first_wrong_place.is at c.first_wrong_place.ensures in
-    let place = rw (c.new.ensures.plan, c.new.ensures.table, c.new.ensures.prefix) at (rw c.unwrap.ensures at c.wrong_place-place.ensures.some) in
+    let place = rw (c.new.ensures.plan, c.new.ensures.table, c.new.ensures.prefix) at (rw c.unwrap.ensures at c.wrong-place.ensures.some) in
     let is : IsNextWrong n (told n state) t None c.unwrap.result = record { first = rw place.0 (rw place.1 first); values = place.2 } in
     (λ r at. c.in_default.ensures.none r (omega arith) at, rw same at is)
 
@@ -30,7 +30,7 @@ returns-in-Some-first_wrong_place-clause-settled g c =
     let t = g.G.RouteTables.tables c.args.tables.now in
     let same = told_unheard n state c.requires.told.unheard in
     let first = rw c.in-Some-first_wrong_place.is at c.first_wrong_place.ensures in
-    let place = rw (c.new.ensures.plan, c.new.ensures.table, c.new.ensures.prefix) at (rw c.unwrap.ensures at c.wrong_place-place.ensures.some) in
+    let place = rw (c.new.ensures.plan, c.new.ensures.table, c.new.ensures.prefix) at (rw c.unwrap.ensures at c.wrong-place.ensures.some) in
     let is : IsNextWrong n (told n state) t None c.unwrap.result = record { first = rw place.0 (rw place.1 first); values = place.2 } in
     (
       λ e. cc e,
