@@ -1,0 +1,3 @@
+pub mod PlanLemmas
+pub mod LineLemmas
+pub mod ToldLemmas

@@ -1,8 +1,13 @@
 //! The routers' own tables, as they tell them.
 #![tactic(auto)]
 
+mod error;
+mod line;
 mod next_hop;
 mod route_tables;
+mod told;
+mod words;
 
+pub use error::{RoutesCause, RoutesError};
 pub use next_hop::NextHop;
 pub use route_tables::RouteTables;
