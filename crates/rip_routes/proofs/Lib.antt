@@ -1,3 +1,6 @@
 pub mod PlanLemmas
 pub mod LineLemmas
 pub mod ToldLemmas
+pub mod WayLemmas
+pub mod TellLemmas
+pub mod RowTellLemmas

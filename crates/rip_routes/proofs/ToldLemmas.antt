@@ -59,21 +59,21 @@ module _ (n : Network) (laws : IsLawful n) (r : ℕ) (p : Block) (known : r < le
   by_is m way least most over =
       elim (cases_Bool (m == 16)) [
         | inl e ↦ record {
-            router = known;
-            least = least;
-            most = most;
-            way = λ lt. absurd (omega (arith, lt, eqb-true m 16 e));
-            unreachable = λ _. ap (λ b. cond b None (Some way)) e;
-            over = λ l h. absurd (none-some (To (Over l)) (sym (ap (λ b. cond b None (Some way)) e) ∙ h));
-          }
+          router = known;
+          least = least;
+          most = most;
+          way = λ lt. absurd (omega (arith, lt, eqb-true m 16 e));
+          unreachable = λ _. ap (λ b. cond b None (Some way)) e;
+          over = λ l h. absurd (none-some (To (Over l)) (sym (ap (λ b. cond b None (Some way)) e) ∙ h));
+        }
         | inr e ↦ record {
-            router = known;
-            least = least;
-            most = most;
-            way = λ _. (way, ap (λ b. cond b None (Some way)) e);
-            unreachable = λ is. absurd (cc (sym e ∙ eq-eqb m 16 is));
-            over = λ l h. over l (same_Some _ _ (sym (ap (λ b. cond b None (Some way)) e) ∙ h));
-          }
+          router = known;
+          least = least;
+          most = most;
+          way = λ _. (way, ap (λ b. cond b None (Some way)) e);
+          unreachable = λ is. absurd (cc (sym e ∙ eq-eqb m 16 is));
+          over = λ l h. over l (same_Some _ _ (sym (ap (λ b. cond b None (Some way)) e) ∙ h));
+        }
       ]
 
   unreachable_is : IsTold n (told_unreachable r p)

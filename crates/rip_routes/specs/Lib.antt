@@ -1,5 +1,9 @@
+pub mod CellViews
+pub mod Cells
+pub mod Judging
 pub mod OwnTables
 pub mod RouteLines
 pub mod Telling
 pub mod Tolds
+pub mod Ways
 pub mod Words

@@ -1,11 +1,14 @@
 //! The routers' own tables, as they tell them.
 #![tactic(auto)]
 
+mod cell;
 mod error;
 mod line;
 mod next_hop;
 mod route_tables;
+mod rows;
 mod told;
+mod ways;
 mod words;
 
 pub use error::{RoutesCause, RoutesError};
