@@ -4,3 +4,4 @@ pub mod ToldLemmas
 pub mod WayLemmas
 pub mod TellLemmas
 pub mod RowTellLemmas
+pub mod OwnLemmas

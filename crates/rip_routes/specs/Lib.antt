@@ -3,6 +3,8 @@ pub mod Cells
 pub mod Judging
 pub mod OwnTables
 pub mod RouteLines
+pub mod TableFacts
+pub mod Takes
 pub mod Telling
 pub mod Tolds
 pub mod Ways

@@ -1,6 +1,9 @@
 //! What is wrong with what routers tell.
 
+ghost use Rattle.std.specs.Prelude.{◌≡◌};
+
 use rip_wire::{Metric, Prefix};
+use std::alloc::AllocError;
 
 /// Why a line is refused, in the numbering that is printed, from 1 on; or why it could not be read.
 #[derive(Clone, Copy, Debug, PartialEq, Eq)]
@@ -35,6 +38,16 @@ pub enum RoutesCause {
     Read,
     /// A growth was refused.
     Memory,
+}
+
+impl From<AllocError> for RoutesCause {
+    ghost use Rattle.rip_routes.specs.declared.error.RoutesCause.TheVariants.{Memory};
+
+    ghost from_gives = { λ _ error. error ≡ Memory };
+
+    fn from(_refused: AllocError) -> RoutesCause {
+        RoutesCause::Memory
+    }
 }
 
 /// Why the routers' tables were not made, and the number of the line concerned, or 0 where none is.

@@ -3,6 +3,7 @@
 
 mod cell;
 mod error;
+mod grid;
 mod line;
 mod next_hop;
 mod route_tables;
