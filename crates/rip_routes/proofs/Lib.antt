@@ -5,3 +5,7 @@ pub mod WayLemmas
 pub mod TellLemmas
 pub mod RowTellLemmas
 pub mod OwnLemmas
+pub mod GridLemmas
+pub mod TakeLemmas
+pub mod CauseLemmas
+pub mod LinesLemmas

@@ -28,7 +28,7 @@ use Rattle.rip_routes.specs.Tolds.{IsTold}
 
 -- ---- lists that grow
 
-split_item : {A : Type 0} (xs : List A) (x y : A) (k : ℕ) → slice_get (xs ++ x ∷ []) k ≡ Some y → (slice_get xs k ≡ Some y) ⊎ ((k ≡ length xs) × (y ≡ x))
+pub split_item : {A : Type 0} (xs : List A) (x y : A) (k : ℕ) → slice_get (xs ++ x ∷ []) k ≡ Some y → (slice_get xs k ≡ Some y) ⊎ ((k ≡ length xs) × (y ≡ x))
 split_item [] x y zero h = inr (refl, sym (same_Some _ _ h))
 split_item [] x y (suc k) h = absurd (none-some y h)
 split_item (z ∷ zs) x y zero h = inl h
@@ -83,13 +83,13 @@ good_prefix t p h room = record {
 
 -- ---- routes
 
-same_hop_is : (a b : NextHop) → same_hop a b ≡ true → a ≡ b
+pub same_hop_is : (a b : NextHop) → same_hop a b ≡ true → a ≡ b
 same_hop_is (Over l) (Over m) h = ap Over (eqb-true l m h)
 same_hop_is (Over l) (Via b) h = absurd (cc h)
 same_hop_is (Via a) (Over m) h = absurd (cc h)
 same_hop_is (Via a) (Via b) h = ap Via (eqb-true a b h)
 
-same_hop_self : (a : NextHop) → same_hop a a ≡ true
+pub same_hop_self : (a : NextHop) → same_hop a a ≡ true
 same_hop_self (Over l) = eq-eqb l l refl
 same_hop_self (Via a) = eq-eqb a a refl
 

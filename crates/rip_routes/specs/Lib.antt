@@ -1,5 +1,6 @@
 pub mod CellViews
 pub mod Cells
+pub mod CollectsRoutes
 pub mod Judging
 pub mod OwnTables
 pub mod RouteLines

@@ -2,6 +2,7 @@
 #![tactic(auto)]
 
 mod cell;
+mod collecting;
 mod error;
 mod grid;
 mod line;
@@ -12,6 +13,8 @@ mod told;
 mod ways;
 mod words;
 
+pub use collecting::collect_routes;
 pub use error::{RoutesCause, RoutesError};
+pub use grid::GridRoutes;
 pub use next_hop::NextHop;
 pub use route_tables::RouteTables;
