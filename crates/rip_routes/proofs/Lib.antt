@@ -9,3 +9,6 @@ pub mod GridLemmas
 pub mod TakeLemmas
 pub mod CauseLemmas
 pub mod LinesLemmas
+pub mod FitsLemmas
+pub mod NewLemmas
+pub mod AskLemmas

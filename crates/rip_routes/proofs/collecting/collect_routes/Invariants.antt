@@ -4,6 +4,7 @@ use Rattle.rip_log.specs.Wholes.{OfWhole, Went}
 use Rattle.rip_table.specs.Rows.{rows_of}
 use Rattle.rip_routes.specs.CollectsRoutes.{PassedKnown}
 use Rattle.rip_routes.specs.Judging.{grid_tables}
+use Rattle.rip_routes.specs.OwnTables.{FitsOwn}
 use Rattle.rip_routes.specs.Ways.{AreWays}
 use Rattle.rip_routes.proofs.collecting.collect_routes.Given as goal
 
@@ -17,6 +18,7 @@ invariant-lines g l =
       running : text_stopped l.reader ≡ false;
       marks : S.broken (text_source l.reader) ≡ S.broken (text_source l.fn.reader);
       ways : AreWays l.grid.ways.keys (rows_of l.grid.rows.entries);
+      fits : FitsOwn l.plan (grid_tables l.grid.listed.items (rows_of l.grid.rows.entries));
       width : length l.grid.listed.items ≡ length l.plan.routers;
     }
 
