@@ -1,8 +1,9 @@
 -- What a place of the grid answers.
-use Rattle.std.proofs.Common.{◌≡◌, ◌∙◌, ◌<◌, ◌≤◌, sym, ap, arith, ℕ, zero, suc, Bool, List, [], ◌∷◌, true, false, length, get_or, None, Some, Option, refl, cond, Vec, Global}
-use Rattle.std.specs.Prelude.{slice_get, slice_index_or, unwrap_or}
+use Rattle.std.proofs.Common.{◌≡◌, ◌∙◌, ◌<◌, ◌≤◌, sym, ap, arith, ℕ, zero, suc, Bool, List, [], ◌∷◌, true, false, length, None, Some, Option, refl, cond, Vec, Global}
+use Rattle.std.specs.Prelude.{option_map, slice_get, slice_index_or, unwrap_or}
+use Rattle.std.specs.Option.{option_map_or}
 use Rattle.std.specs.Map.{values_of}
-use Rattle.std.proofs.lemmas.Option.{slice_get-get_or}
+use Rattle.std.proofs.lemmas.Option.{none-some, same_Some}
 use Rattle.rip_wire.specs.Prefix.{Block}
 use Rattle.rip_plan.proofs.ItemLemmas.{get_some}
 use Rattle.rip_plan.specs.Passes.{same_prefix}
@@ -42,3 +43,20 @@ pub past : (listed : List Bool) (rows : Rows (Option OwnRoute)) (r k width : ℕ
 past listed rows r k width grid h lt =
     let (p, here) = get_some (heads rows) k lt in
     at_number listed rows r k p here ∙ ap (λ (o : Option OwnRoute). unwrap_or o no_route) (past_cell rows width r p grid h)
+
+-- the parts of a route, by its cell
+pub metric_some : (x : Option OwnRoute) (m : ℕ) → option_map (λ (route : OwnRoute). route.metric) x ≡ Some m → m ≡ (unwrap_or x no_route).metric
+metric_some None m h = absurd (none-some m h)
+metric_some (Some route) m h = sym (same_Some _ _ h)
+
+pub metric_none : (x : Option OwnRoute) → option_map (λ (route : OwnRoute). route.metric) x ≡ None → 16 ≡ (unwrap_or x no_route).metric
+metric_none None h = refl
+metric_none (Some route) h = absurd (none-some route.metric (sym h))
+
+pub here_is : (x : Option OwnRoute) → option_map_or (λ (route : OwnRoute). route.here) x false ≡ (unwrap_or x no_route).here
+here_is None = refl
+here_is (Some route) = refl
+
+pub hops_are : (x : Option OwnRoute) → option_map_or (λ (route : OwnRoute). route.hops) x [] ≡ (unwrap_or x no_route).hops
+hops_are None = refl
+hops_are (Some route) = refl

@@ -1,5 +1,5 @@
 -- By what a line may be refused.
-use Rattle.std.proofs.Common.{◌≡◌, ℕ, Bool, true, false, List, [], ◌∷◌, Option, Some, None, Result, Ok, Err, cond, refl, sym, ap, ◌∙◌, subst}
+use Rattle.std.proofs.Common.{◌≡◌, ℕ, Bool, true, false, List, [], ◌∷◌, Option, Some, None, Result, Ok, Err, cond, refl, subst}
 use Rattle.std.specs.Prelude.{codes, nat_le, length, ◌&&◌, ◌==◌}
 use Rattle.std.specs.Str.{bytes_eq}
 use Rattle.rip_wire.specs.Prefix.{Block, prefix_in}
@@ -11,7 +11,7 @@ use Rattle.rip_routes.specs.declared.told.Told.{Told}
 use Rattle.rip_routes.specs.OwnTables.{OwnRoute, OwnTables}
 use Rattle.rip_routes.specs.RouteLines.{hop_in, is_silent, metric_in, router_in, told_alone, told_by_fields, told_by_line, told_hop, told_of_router, told_rest, told_with}
 use Rattle.rip_routes.specs.Takes.{is_memory, is_read}
-use Rattle.rip_routes.specs.Telling.{is_full, tell, tell_at, tell_said, with_told}
+use Rattle.rip_routes.specs.Telling.{is_full, tell_at, tell_said, with_told}
 
 -- neither a growth nor the source is to blame
 pub record IsOfLine (cause : RoutesCause) : Type 0 where

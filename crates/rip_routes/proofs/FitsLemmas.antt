@@ -1,7 +1,7 @@
 -- Tables fit a plan as lines are told.
 use Rattle.std.proofs.Common.{◌≡◌, ◌⊎◌, ℕ, Bool, true, false, List, [], ◌∷◌, ◌++◌, Option, Some, None, Result, Ok, Err, cond, refl, sym, subst, ap, ◌∙◌, inl, inr, ◌==◌, ◌&&◌, ◌||◌, eqb-true, append_assoc, append-nil}
-use Rattle.std.specs.Prelude.{Contains, slice_get, unwrap_or}
-use Rattle.std.proofs.lemmas.Bool.{and_parts, or_right}
+use Rattle.std.specs.Prelude.{Contains, slice_get}
+use Rattle.std.proofs.lemmas.Bool.{and_parts}
 use Rattle.std.proofs.lemmas.Option.{none-some, same_Some}
 use Rattle.rip_wire.specs.Prefix.{Block}
 use Rattle.rip_plan.specs.Network.{Network}
@@ -11,7 +11,7 @@ use Rattle.rip_plan.proofs.BelowLemmas.{at_contains, contains_at}
 use Rattle.rip_plan.proofs.ItemLemmas.{get_left}
 use Rattle.rip_plan.proofs.NumberingLemmas.{same_is}
 use Rattle.rip_log.specs.Fields.{fields_of}
-use Rattle.rip_table.specs.State.{is_among, with_prefix}
+use Rattle.rip_table.specs.State.{is_among}
 use Rattle.rip_table.proofs.PrefixListLemmas.{is_among-append, is_among-item}
 use Rattle.rip_routes.specs.declared.error.RoutesCause.{RoutesCause}
 use Rattle.rip_routes.specs.declared.error.RoutesCause.TheVariants as causes
@@ -21,8 +21,8 @@ use Rattle.rip_routes.specs.declared.told.Told.{Told}
 use Rattle.rip_routes.specs.declared.told.Way.{Way}
 use Rattle.rip_routes.specs.declared.told.Way.TheVariants.{Here, To}
 use Rattle.rip_routes.specs.OwnTables.{FitsOwn, OwnRoute, OwnTables}
-use Rattle.rip_routes.specs.RouteLines.{before_comma, told_by_bare, told_by_line}
-use Rattle.rip_routes.specs.Telling.{first_route, has_hop, is_full, new_tables, route_with, tell, tell_at, tell_said, with_hop, with_told, with_way}
+use Rattle.rip_routes.specs.RouteLines.{before_comma, told_by_bare}
+use Rattle.rip_routes.specs.Telling.{first_route, has_hop, is_full, new_tables, route_with, tell_at, tell_said, with_hop, with_told, with_way}
 use Rattle.rip_routes.specs.Tolds.{IsTold}
 use Rattle.rip_routes.proofs.OwnLemmas.{split_item}
 use Rattle.rip_routes.proofs.ToldLemmas.{line_is}

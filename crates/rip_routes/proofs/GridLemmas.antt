@@ -1,17 +1,14 @@
 -- What rows mean as a line is told.
 use Rattle.std.proofs.Common.{◌≡◌, ◌⊎◌, ◌<◌, ◌≤◌, ℕ, Bool, true, false, not, List, [], ◌∷◌, ◌++◌, length, replicate, Option, Some, None, cond, arith, refl, sym, subst, ◌∙◌, ap, inl, inr, set, ◌==◌, ◌&&◌, ◌||◌, eq-eqb, eqb-true}
-use mathlib.Core.Path.{fun_ext}
 use Rattle.std.specs.Prelude.{slice_get, unwrap_or}
-use Rattle.std.specs.List.{list_any}
 use Rattle.std.proofs.lemmas.Bool.{cases_Bool, and_parts}
 use Rattle.std.proofs.lemmas.List.{length-append}
 use Rattle.std.proofs.lemmas.List.Folds.{list_any-append}
-use Rattle.std.proofs.lemmas.Option.{none-some, same_Some, slice_get_within}
+use Rattle.std.proofs.lemmas.Option.{same_Some, slice_get_within}
 use Rattle.rip_wire.specs.Prefix.{Block}
 use Rattle.rip_wire.specs.declared.entry.Entry.{Entry}
 use Rattle.rip_plan.specs.Network.{number_of_prefix}
 use Rattle.rip_plan.specs.Passes.{same_prefix}
-use Rattle.rip_plan.proofs.ItemLemmas.{cases_option}
 use Rattle.rip_plan.proofs.NumberingLemmas.{same_is, same_self}
 use Rattle.rip_table.specs.State.{State, is_among, with_prefix}
 use Rattle.rip_table.specs.Rows.{IsGrid, Rows, cell, heads, with_cell, with_row}
@@ -22,7 +19,7 @@ use Rattle.rip_table.proofs.PrefixListLemmas.{is_among-item}
 use Rattle.rip_table.proofs.RowLemmas.{heads-append, heads-with_cell, number-keeps}
 use Rattle.rip_routes.specs.Cells.{added}
 use Rattle.rip_routes.specs.Judging.{grid_tables}
-use Rattle.rip_routes.specs.OwnTables.{OwnRoute, OwnTables}
+use Rattle.rip_routes.specs.OwnTables.{OwnRoute}
 use Rattle.rip_routes.specs.Telling.{first_route, has_hop, route_with, same_hop, with_hop, with_told, with_way}
 use Rattle.rip_routes.specs.Ways.{AreWays, IsNewWay, IsNoted, WayKey, has_way, hops_of, same_way}
 use Rattle.rip_routes.specs.declared.next_hop.NextHop.{NextHop}

@@ -1,25 +1,23 @@
 -- What lines tell, one after the other.
-use Rattle.std.proofs.Common.{◌≡◌, ◌⊎◌, ◌<◌, ◌≤◌, ◌+◌, ℕ, zero, suc, Bool, true, false, List, [], ◌∷◌, ◌++◌, length, Option, Some, None, Result, Ok, Err, cond, arith, refl, sym, subst, ap, ◌∙◌, inl, inr, append_assoc, append-nil}
+use Rattle.std.proofs.Common.{◌≡◌, ◌<◌, ◌≤◌, ◌+◌, ℕ, suc, Bool, true, false, List, [], ◌∷◌, ◌++◌, length, Option, Some, None, Result, Ok, Err, cond, arith, refl, sym, subst, ap, ◌∙◌, inl, inr, append_assoc, append-nil}
 use Rattle.std.specs.Prelude.{nat_le, nat_lt}
 use Rattle.std.specs.Io.BufRead.{strip_last}
 use Rattle.std.specs.Io.KnownBytes.{Keeps}
-use Rattle.std.proofs.lemmas.Bool.{cases_Bool}
 use Rattle.std.proofs.lemmas.List.{length-append}
 use Rattle.rip_plan.specs.Network.{Network}
 use Rattle.rip_log.specs.Codes.{is_read as is_read_code}
 use Rattle.rip_log.specs.Wholes.{Begins}
-use Rattle.rip_log.specs.Cuts.{DropsLines, HasLine, LongFirst}
+use Rattle.rip_log.specs.Cuts.{DropsLines, HasLine}
 use Rattle.rip_log.specs.Fields.{fields_of}
 use Rattle.rip_log.specs.Lines.{lines_of}
 use Rattle.rip_log.specs.Logs.{IfElse}
 use Rattle.rip_log.specs.TextCall.{IsBadNext, TakesBare}
 use Rattle.rip_log.specs.declared.error.LogCode.{LogCode}
 use Rattle.rip_log.specs.declared.error.LogCode.TheVariants as codes
-use Rattle.rip_log.specs.declared.error.LogError.{LogError}
 use Rattle.rip_routes.specs.declared.error.RoutesCause.{RoutesCause}
 use Rattle.rip_routes.specs.declared.error.RoutesCause.TheVariants as causes
 use Rattle.rip_routes.specs.declared.error.RoutesError.{RoutesError}
-use Rattle.rip_routes.specs.CollectsRoutes.{OutcomeKnown, Passed, PassedKnown, Stuck, StuckKnown, TellsLine, ToldOutcome, UnreadKnown, WantsAt, cause_of}
+use Rattle.rip_routes.specs.CollectsRoutes.{OutcomeKnown, Passed, PassedKnown, StuckKnown, ToldOutcome, UnreadKnown, WantsAt, cause_of}
 use Rattle.rip_routes.specs.OwnTables.{OwnTables}
 use Rattle.rip_routes.specs.RouteLines.{before_comma, told_by_bare}
 use Rattle.rip_routes.specs.Takes.{is_memory, is_read}

@@ -1,5 +1,5 @@
 -- The tables of which nothing is told.
-use Rattle.std.proofs.Common.{◌≡◌, ◌∙◌, ◌<◌, ◌≤◌, sym, ap, ℕ, zero, suc, Bool, List, [], ◌∷◌, length, replicate, false, true, None, Option, arith, refl}
+use Rattle.std.proofs.Common.{◌≡◌, ◌∙◌, ◌≤◌, sym, ap, ℕ, zero, suc, Bool, List, [], length, replicate, false, None, Option, refl}
 use mathlib.Core.Path.{fun_ext}
 use Rattle.std.specs.Prelude.{slice_index_or}
 use Rattle.std.proofs.lemmas.Option.{none-some}
@@ -7,11 +7,11 @@ use Rattle.rip_wire.specs.Prefix.{Block}
 use Rattle.rip_plan.specs.Network.{Network}
 use Rattle.rip_plan.specs.Relations.{IsLawful}
 use Rattle.rip_table.specs.State.{new_state}
-use Rattle.rip_table.specs.Rows.{Rows, cell, heads, planned_rows}
+use Rattle.rip_table.specs.Rows.{cell, planned_rows}
 use Rattle.rip_table.proofs.CellLemmas.{cell-planned}
 use Rattle.rip_table.proofs.NewLemmas.{empty-is}
 use Rattle.rip_table.proofs.RowLemmas.{heads-planned}
-use Rattle.rip_routes.specs.OwnTables.{OwnRoute, OwnTables}
+use Rattle.rip_routes.specs.OwnTables.{OwnRoute}
 use Rattle.rip_routes.specs.Judging.{grid_tables}
 use Rattle.rip_routes.specs.TableFacts.{AreGood}
 use Rattle.rip_routes.specs.Telling.{has_hop, new_tables}

@@ -1,14 +1,14 @@
 -- Tables stay good as lines are told.
-use Rattle.std.proofs.Common.{◌≡◌, ◌⊎◌, ◌<◌, ◌≤◌, ℕ, zero, suc, Bool, true, false, not, List, [], ◌∷◌, ◌++◌, length, Option, Some, None, Result, Ok, Err, cond, arith, refl, sym, subst, ◌∙◌, ap, inl, inr, ◌==◌, ◌&&◌, ◌||◌, eq-eqb, eqb-true}
-use Rattle.std.specs.Prelude.{slice_get, is_some, nat_le, unwrap_or, length}
+use Rattle.std.proofs.Common.{◌≡◌, ◌⊎◌, ◌<◌, ◌≤◌, ℕ, zero, suc, Bool, true, false, not, List, [], ◌∷◌, ◌++◌, length, Option, Some, None, Result, Ok, Err, cond, arith, refl, sym, subst, ◌∙◌, ap, inl, inr, ◌==◌, ◌&&◌, eq-eqb, eqb-true}
+use Rattle.std.specs.Prelude.{slice_get, is_some, nat_le, length}
 use Rattle.std.specs.List.{list_any}
-use Rattle.std.proofs.lemmas.Bool.{cases_Bool, and_parts, or_cases, or_left, or_right}
+use Rattle.std.proofs.lemmas.Bool.{and_parts, or_right}
 use Rattle.std.proofs.lemmas.List.{length-append}
 use Rattle.std.proofs.lemmas.Option.{none-some, same_Some}
 use Rattle.rip_wire.specs.Prefix.{Block}
 use Rattle.rip_plan.specs.Network.{Network}
 use Rattle.rip_plan.specs.Passes.{same_prefix}
-use Rattle.rip_plan.proofs.ItemLemmas.{any_at, any_finds, get_last, get_left, get_split}
+use Rattle.rip_plan.proofs.ItemLemmas.{any_at, any_finds, get_left}
 use Rattle.rip_plan.proofs.NumberingLemmas.{same_is, same_self}
 use Rattle.rip_table.specs.State.{AreDistinct, is_among, with_prefix}
 use Rattle.rip_table.proofs.AfterLemmas.{kept_among, new_among}

@@ -1,9 +1,7 @@
 -- What a plan answers, as the definitions compute it.
-use Rattle.std.proofs.Common.{◌≡◌, ◌⊎◌, ◌↔◌, ◌<◌, ◌≤◌, ℕ, Bool, true, false, List, length, Option, Some, None, arith, refl, sym, ◌∙◌, ap, inl, inr, eq-eqb, eqb-true, ◌==◌, ◌&&◌}
+use Rattle.std.proofs.Common.{◌≡◌, ◌↔◌, ◌<◌, ◌≤◌, ℕ, Bool, true, false, List, length, Option, Some, None, arith, refl, sym, ◌∙◌, ap, inl, inr, eq-eqb, ◌==◌, ◌&&◌}
 use Rattle.std.specs.Prelude.{Decides, slice_get, option_and_then, IsAscii}
-use Rattle.std.specs.List.{list_any}
 use Rattle.std.specs.Str.{IsUtf8}
-use Rattle.std.proofs.lemmas.Bool.{cases_Bool}
 use Rattle.std.proofs.lemmas.Bool.Decides.{nat_tests}
 use Rattle.std.proofs.lemmas.Option.{none-some, slice_get_within}
 use Rattle.std.proofs.lemmas.Str.{IsUtf8-from_ascii}
@@ -12,7 +10,7 @@ use Rattle.rip_wire.specs.Prefix.{Block, prefix_in}
 use Rattle.rip_plan.specs.declared.parts.Interface.{Interface}
 use Rattle.rip_plan.specs.Names.{number_of_name}
 use Rattle.rip_plan.specs.Network.{Network, direct_at, number_of_prefix}
-use Rattle.rip_plan.specs.Relations.{IsConnected, IsDirect, IsLawful, IsOn, IsPrefix, Touches}
+use Rattle.rip_plan.specs.Relations.{IsDirect, IsLawful, IsOn, IsPrefix, Touches}
 use Rattle.rip_plan.proofs.ItemLemmas.{any_at, any_finds, cases_option}
 use Rattle.rip_plan.proofs.LookupLemmas.{direct_gives, interface_of, named_exact, number_of_planned, prefix_of_number}
 use Rattle.rip_plan.proofs.PlanAnswerLemmas.{direct_exact}

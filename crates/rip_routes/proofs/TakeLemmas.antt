@@ -1,11 +1,10 @@
 -- What taking a line's route answers.
-use Rattle.std.proofs.Common.{◌≡◌, ◌⊎◌, ◌<◌, ℕ, Bool, true, false, not, List, length, Option, Some, None, Result, Ok, Err, OnErr, arith, ap, refl, sym, subst, inl, inr, set, ◌∙◌}
+use Rattle.std.proofs.Common.{◌≡◌, ◌<◌, ℕ, Bool, true, false, not, List, length, Option, Some, None, Result, Ok, Err, OnErr, arith, ap, refl, sym, subst, set, ◌∙◌}
 use Rattle.std.proofs.Math.ListN.{length-set}
 use Rattle.std.specs.Prelude.{unwrap_or}
 use Rattle.std.proofs.lemmas.Option.{none-some}
 use Rattle.rip_wire.specs.Prefix.{Block}
 use Rattle.rip_plan.specs.Network.{number_of_prefix}
-use Rattle.rip_table.specs.State.{is_among}
 use Rattle.rip_table.specs.Rows.{IsGrid, Rows, cell, heads, with_cell, with_row}
 use Rattle.rip_table.proofs.RowLemmas.{grid-with_cell, grid-with_row}
 use Rattle.rip_log.specs.Logs.{IfElse}

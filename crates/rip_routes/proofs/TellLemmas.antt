@@ -1,5 +1,5 @@
 -- What a line tells of rows.
-use Rattle.std.proofs.Common.{◌≡◌, ◌≢◌, ◌⊎◌, ◌<◌, ◌≤◌, ℕ, Bool, true, false, not, List, [], ◌∷◌, length, Option, Some, None, Result, Ok, Err, cond, arith, refl, sym, ◌∙◌, ap, inl, inr, ◌==◌, ◌&&◌, eq-eqb, eqb-true}
+use Rattle.std.proofs.Common.{◌≡◌, ◌≢◌, ◌<◌, ◌≤◌, ℕ, Bool, true, false, not, List, [], ◌∷◌, length, Option, Some, None, Ok, Err, cond, arith, refl, sym, ◌∙◌, ap, inl, inr, ◌==◌, ◌&&◌, eq-eqb, eqb-true}
 use Rattle.std.specs.Prelude.{option_map, nat_le, slice_get}
 use Rattle.std.proofs.lemmas.Bool.{cases_Bool, or_parts}
 use Rattle.std.proofs.lemmas.Option.{none-some, same_Some}
@@ -11,12 +11,11 @@ use Rattle.rip_plan.specs.Passes.{same_prefix}
 use Rattle.rip_table.specs.Rows.{Rows, cell, heads}
 use Rattle.rip_table.specs.State.{is_among}
 use Rattle.rip_table.proofs.NumberLemmas.{number-none, number-some}
-use Rattle.rip_routes.specs.declared.error.RoutesCause.{RoutesCause}
 use Rattle.rip_routes.specs.declared.error.RoutesCause.TheVariants as causes
 use Rattle.rip_routes.specs.declared.told.Told.{Told}
 use Rattle.rip_routes.specs.Judging.{grid_tables}
 use Rattle.rip_routes.specs.OwnTables.{OwnRoute, OwnTables}
-use Rattle.rip_routes.specs.Telling.{is_full, tell, tell_at, with_told}
+use Rattle.rip_routes.specs.Telling.{tell, tell_at, with_told}
 
 -- a prefix without a row has no cell
 pub cell-absent : {Cell : Type 0} (blank : Cell) (rows : Rows Cell) (i : ℕ) (p : Block) → is_among p (heads rows) ≡ false → cell blank rows i p ≡ blank

@@ -8,7 +8,6 @@ use Rattle.std.proofs.lemmas.Option.{none-some, same_Some}
 use Rattle.rip_wire.specs.Prefix.{Block, prefix_in}
 use Rattle.rip_plan.specs.Network.{Network}
 use Rattle.rip_plan.specs.Relations.{IsLawful, IsOn}
-use Rattle.rip_plan.proofs.ItemLemmas.{cases_option}
 use Rattle.rip_routes.specs.declared.error.RoutesCause.{RoutesCause}
 use Rattle.rip_routes.specs.declared.error.RoutesCause.TheVariants as causes
 use Rattle.rip_routes.specs.declared.next_hop.NextHop.{NextHop}
@@ -16,7 +15,7 @@ use Rattle.rip_routes.specs.declared.next_hop.NextHop.TheVariants.{Over, Via}
 use Rattle.rip_routes.specs.declared.told.Told.{Told}
 use Rattle.rip_routes.specs.declared.told.Way.{Way}
 use Rattle.rip_routes.specs.declared.told.Way.TheVariants.{Here, To}
-use Rattle.rip_routes.specs.RouteLines.{before_comma, direct_in, hop_in, is_on_link, is_silent, link_in, metric_in, over_in, router_in, told_alone, told_by, told_by_bare, told_by_fields, told_by_line, told_hop, told_of_prefix, told_of_router, told_rest, told_unreachable, told_with}
+use Rattle.rip_routes.specs.RouteLines.{direct_in, hop_in, is_on_link, is_silent, link_in, metric_in, over_in, router_in, told_alone, told_by, told_by_fields, told_by_line, told_hop, told_of_router, told_rest, told_unreachable, told_with}
 use Rattle.rip_routes.specs.Tolds.{IsTold}
 use Rattle.rip_routes.proofs.PlanLemmas.{direct_bounds, named_below, on_link_exact}
 

@@ -1,5 +1,5 @@
 -- What a cell stands for.
-use Rattle.std.specs.Prelude.{◌≡◌, ℕ, ◌==◌, ◌≤◌, false, if◌then◌else◌, [], Option, Some, None}
+use Rattle.std.specs.Prelude.{◌≡◌, ◌==◌, ◌≤◌, false, if◌then◌else◌, [], Option, Some, None}
 use Rattle.rip_routes.specs.OwnTables.{OwnRoute}
 use Rattle.rip_routes.specs.declared.cell.Cell.TheInside.{Inside}
 

@@ -1,11 +1,11 @@
 -- What `collect_routes` answers and leaves.
-use Rattle.std.specs.Prelude.{◌≡◌, ◌⊎◌, ◌≤◌, ℕ, ◌+◌, Bool, true, false, List, ◌∷◌, ◌++◌, length, Option, Some, None, Result, Ok, Err, IfErr, IfOk, is_ok}
+use Rattle.std.specs.Prelude.{◌≡◌, ◌⊎◌, ℕ, ◌+◌, Bool, true, false, List, ◌∷◌, ◌++◌, length, Option, Some, None, Result, Ok, Err, IfErr, IfOk, is_ok}
 use Rattle.std.specs.Io.BufRead.{strip_last}
 use Rattle.rip_plan.specs.Network.{Network}
 use Rattle.rip_log.specs.Cuts.{DropsLines}
 use Rattle.rip_log.specs.Lines.{lines_of}
 use Rattle.rip_log.specs.Logs.{IfElse}
-use Rattle.rip_log.specs.TextCall.{IsTextOver, text_lines, text_source, text_to_come}
+use Rattle.rip_log.specs.TextCall.{IsTextOver, text_source, text_to_come}
 use Rattle.rip_log.specs.Wholes.{OfWhole, Went}
 use Rattle.rip_log.specs.declared.error.LogCode.{LogCode}
 use Rattle.rip_log.specs.declared.error.LogCode.TheVariants as codes

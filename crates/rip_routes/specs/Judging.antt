@@ -5,7 +5,7 @@ use Rattle.rip_routes.specs.OwnTables.{OwnRoute, OwnTables}
 use Rattle.rip_routes.specs.Telling.{tell, with_told}
 use Rattle.rip_routes.specs.declared.error.RoutesCause.{RoutesCause}
 use Rattle.rip_routes.specs.declared.told.Told.{Told}
-use Rattle.std.specs.Prelude.{ℕ, false, slice_index_or}
+use Rattle.std.specs.Prelude.{false, slice_index_or}
 
 -- the tables of these rows
 abbrev pub grid_tables : List Bool → Rows (Option OwnRoute) → OwnTables

@@ -1,5 +1,5 @@
 -- The fields of a line that count.
-use Rattle.std.specs.Prelude.{◌≡◌, ℕ, ◌<◌, ◌≤◌, ◌⊎◌, List, [], ◌∷◌, length}
+use Rattle.std.specs.Prelude.{◌≡◌, ℕ, ◌<◌, ◌⊎◌, List, [], ◌∷◌, length}
 use Rattle.rip_routes.specs.declared.words.Words.{Words}
 use Rattle.rip_routes.specs.declared.words.Words.TheVariants as words
 

@@ -1,4 +1,4 @@
-use Rattle.std.proofs.Common.{◌≡◌, ◌∙◌, ◌<◌, ◌+◌, false, true, arith, refl, sym, subst, ap, Ok, Err, ℕ, List, Option}
+use Rattle.std.proofs.Common.{◌≡◌, ◌∙◌, ◌<◌, ◌+◌, arith, refl, sym, subst, ap, Err, ℕ}
 use Rattle.rip_log.specs.Codes.{is_read as is_read_code}
 use Rattle.rip_log.specs.TextCall.{text_lines, text_source, text_to_come}
 use Rattle.rip_log.specs.Wholes.{rest_of}
@@ -134,11 +134,11 @@ returns-in-Err g c =
     let code = c.in-Err.error.code in
     let number : c.in-Err.error.line ≡ text_lines was + 1 = let here = h.here in let behind = h.behind in omega (arith, here, behind) in
     let error : record { line = c.in-Err.error.line; cause = c.cause_of.result } ≡ record { line = text_lines was + 1; cause = cause_of code } =
-        ap (λ (m : ℕ). record { line = m; cause = c.cause_of.result }) number ∙ ap (λ (cause : RoutesCause). record { line = text_lines was + 1; cause = cause }) c.cause_of.ensures in
+    ap (λ (m : ℕ). record { line = m; cause = c.cause_of.result }) number ∙ ap (λ (cause : RoutesCause). record { line = text_lines was + 1; cause = cause }) c.cause_of.ensures in
     let given = S.given (text_source now) in
     let read : is_read c.cause_of.result ≡ is_read_code code =
-        ap is_read c.cause_of.ensures
-        ∙ code_read (text_to_come (rest_of S.given given) was) (text_to_come (rest_of S.given given) now) (text_lines was) code (h.gives inv.running given (begins_now given (S.at_end (text_source now)))) in
+    ap is_read c.cause_of.ensures
+    ∙ code_read (text_to_come (rest_of S.given given) was) (text_to_come (rest_of S.given given) now) (text_lines was) code (h.gives inv.running given (begins_now given (S.at_end (text_source now)))) in
     record {
       told = λ whole begins.
           let coming = rest_of S.given whole in

@@ -1,7 +1,6 @@
-use Rattle.std.proofs.Common.{◌∙◌, sym, ap, Ok, Err, Some, None}
-use Rattle.rip_wire.specs.Prefix.{Block}
+use Rattle.std.proofs.Common.{◌∙◌, sym, ap}
 use Rattle.rip_log.specs.Fields.{fields_of}
-use Rattle.rip_routes.specs.RouteLines.{before_comma, told_by_line}
+use Rattle.rip_routes.specs.RouteLines.{told_by_line}
 use Rattle.rip_routes.proofs.LineLemmas.{line_empty, line_silent, line_says}
 use Rattle.rip_routes.proofs.ToldLemmas.{all_told}
 use Rattle.rip_routes.proofs.line.told_by_line.Goals as goal

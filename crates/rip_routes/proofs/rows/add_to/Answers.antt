@@ -1,6 +1,6 @@
-use Rattle.std.proofs.Common.{◌≡◌, ◌∙◌, arith, ap, sym, refl, None, Some, Option}
+use Rattle.std.proofs.Common.{◌∙◌, arith, ap, sym, refl, Some, Option}
 use Rattle.std.specs.Prelude.{unwrap_or}
-use Rattle.rip_table.specs.Rows.{cell, rows_of, with_cell}
+use Rattle.rip_table.specs.Rows.{rows_of, with_cell}
 use Rattle.rip_table.proofs.RowLemmas.{row-width, rows-set}
 use Rattle.rip_routes.specs.Cells.{added}
 use Rattle.rip_routes.specs.OwnTables.{OwnRoute}

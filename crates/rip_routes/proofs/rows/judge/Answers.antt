@@ -1,11 +1,7 @@
-use Rattle.std.proofs.Common.{◌≡◌, ◌∙◌, ◌≤◌, ◌<◌, Option, Some, None, ℕ, arith, ap, sym, length, refl, Vec, Global}
-use Rattle.std.specs.Prelude.{option_map, slice_get, slice_index_or}
-use Rattle.std.proofs.lemmas.List.{get_or_default}
-use Rattle.rip_wire.specs.Prefix.{Block}
-use Rattle.rip_plan.specs.Network.{number_of_prefix}
-use Rattle.rip_table.specs.Rows.{IsGrid, cell, heads, rows_of}
-use Rattle.rip_table.proofs.CellLemmas.{cell-at}
-use Rattle.rip_table.proofs.RowLemmas.{Entries, index-number, length-heads, length-rows, row-at, row-width}
+use Rattle.std.proofs.Common.{◌≡◌, ◌∙◌, arith, ap, sym, length}
+use Rattle.std.specs.Prelude.{option_map}
+use Rattle.rip_table.specs.Rows.{heads, rows_of}
+use Rattle.rip_table.proofs.RowLemmas.{index-number, length-heads, length-rows, row-width}
 use Rattle.rip_routes.specs.OwnTables.{OwnRoute}
 use Rattle.rip_routes.proofs.RowTellLemmas.{cell-of-row}
 use Rattle.rip_routes.proofs.TellLemmas.{told_blank, told_changed, told_full, told_room, told_same}

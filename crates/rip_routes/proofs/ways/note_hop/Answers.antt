@@ -1,4 +1,4 @@
-use Rattle.std.proofs.Common.{arith, refl}
+use Rattle.std.proofs.Common.{refl}
 use Rattle.rip_routes.proofs.WayLemmas.{with_key}
 use Rattle.rip_routes.proofs.ways.note_hop.Goals as goal
 

@@ -1,21 +1,18 @@
-use Rattle.std.proofs.Common.{rules, ◌≡◌, ◌∙◌, ◌<◌, ◌⊎◌, Err, Ok, Some, None, true, false, inl, inr, length, set, sym, ap, subst, refl, arith, List, Option, ℕ, Bool}
-use Rattle.std.proofs.Math.ListN.{length-set}
+use Rattle.std.proofs.Common.{rules, ◌≡◌, ◌∙◌, Err, Ok, Some, None, true, false, inl, inr, length, set, sym, ap, subst, Option, ℕ}
 use Rattle.std.specs.Prelude.{unwrap_or}
 use Rattle.rip_wire.specs.Prefix.{Block}
 use Rattle.rip_plan.specs.Network.{number_of_prefix}
-use Rattle.rip_table.specs.State.{is_among}
 use Rattle.rip_table.specs.Rows.{IsGrid, Rows, cell, heads, rows_of, with_cell, with_row}
-use Rattle.rip_table.proofs.RowLemmas.{grid-with_cell, grid-with_row}
+use Rattle.rip_table.proofs.RowLemmas.{grid-with_row}
 use Rattle.rip_routes.specs.Cells.{added}
 use Rattle.rip_routes.specs.Judging.{grid_tables}
 use Rattle.rip_routes.specs.OwnTables.{OwnRoute, OwnTables}
 use Rattle.rip_routes.specs.TableFacts.{AreGood}
 use Rattle.rip_routes.specs.Takes.{Takes}
-use Rattle.rip_routes.specs.Telling.{first_route, has_hop, route_with, tell, with_told, with_way}
-use Rattle.rip_routes.specs.Ways.{AreWays, has_way, hops_of}
+use Rattle.rip_routes.specs.Telling.{first_route, has_hop}
+use Rattle.rip_routes.specs.Ways.{AreWays, hops_of}
 use Rattle.rip_routes.specs.declared.error.RoutesCause.TheVariants.{Memory}
-use Rattle.rip_routes.specs.declared.next_hop.NextHop.{NextHop}
-use Rattle.rip_routes.proofs.GridLemmas.{added-is, cells-grown, tables-grown, tables-told, ways-grown, ways-told}
+use Rattle.rip_routes.proofs.GridLemmas.{cells-grown, tables-grown, ways-grown}
 use Rattle.rip_routes.proofs.OwnLemmas.{good_prefix, good_told, told_room}
 use Rattle.rip_routes.proofs.TakeLemmas.{fresh_of, grid-written, lacking, refused, tables-written, ways-written}
 use Rattle.rip_routes.proofs.grid.GridRoutes.take.Goals as goal

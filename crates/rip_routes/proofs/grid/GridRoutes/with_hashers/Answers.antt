@@ -1,8 +1,7 @@
-use Rattle.std.proofs.Common.{◌≡◌, ◌∙◌, sym, ap, subst, ℕ, Bool, List, length, replicate, false, None, Option}
-use Rattle.rip_table.specs.Rows.{IsGrid, Rows, cell, heads, rows_of}
+use Rattle.std.proofs.Common.{◌≡◌, ◌∙◌, sym, ap, subst, ℕ, Bool, List, length, replicate, false, None}
+use Rattle.rip_table.specs.Rows.{IsGrid, rows_of}
 use Rattle.rip_table.proofs.NewLemmas.{length-none}
 use Rattle.rip_table.proofs.RowLemmas.{grid-planned}
-use Rattle.rip_routes.specs.OwnTables.{OwnRoute}
 use Rattle.rip_routes.specs.Judging.{grid_tables}
 use Rattle.rip_routes.specs.TableFacts.{AreGood}
 use Rattle.rip_routes.specs.Ways.{AreWays}
