@@ -23,7 +23,7 @@ first-kept (Some t) None new line keeps cut = absurd keeps
 first-kept (Some t) (Some m) None line keeps cut = absurd cut
 first-kept (Some t) (Some m) (Some r) line keeps cut = (ap lines_of (sym keeps) ∙ cut.0, cut.1, sym keeps ∙ cut.2)
 
-long-kept : (t m : Option (List ℕ)) → Keeps t m → LongFirst m → LongFirst t
+pub long-kept : (t m : Option (List ℕ)) → Keeps t m → LongFirst m → LongFirst t
 long-kept None m keeps long = tt
 long-kept (Some t) None keeps long = absurd keeps
 long-kept (Some t) (Some m) keeps long = (long.0, long.1, long.2, ap lines_of (sym keeps) ∙ long.3)

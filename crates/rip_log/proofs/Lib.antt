@@ -30,3 +30,4 @@ pub mod TimeLemmas
 pub mod TimedLemmas
 pub mod TimedRelations
 pub mod TimedTextLemmas
+pub mod TextLemmas

@@ -24,6 +24,7 @@ pub mod Said
 pub mod Spans
 pub mod Steps
 pub mod Taken
+pub mod TextCall
 pub mod TimedCall
 pub mod TimedParts
 pub mod TimedText

@@ -88,8 +88,9 @@ pub fn is_field(bytes: &[u8]) -> bool
     skip_field(bytes, 0) == bytes.len()
 }
 
-/// The next field from `from` on.
-fn next_field(line: &[u8], from: usize) -> Option<Span>
+/// The next field of a line from `from` on, where it lies: after blanks, which are spaces and tabs,
+/// as many bytes as there are that are no blanks.
+pub fn next_field(line: &[u8], from: usize) -> Option<Span>
     requires { from ≤ length line.now }
     ensures { MatchOption result (fields_of (drop from line.now) ≡ []) (NextField line.now from) }
 {

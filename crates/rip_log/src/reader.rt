@@ -13,6 +13,7 @@ use crate::device::Failed;
 use crate::error::{LogCode, LogError};
 use crate::limits::{MOST_HELD_BYTES, MOST_LINES};
 use crate::line::{Fault, Parts, judge_line};
+use crate::progress::Progress;
 use crate::source::Source;
 use crate::span::Span;
 use crate::window::{RawLine, Window};
@@ -73,14 +74,6 @@ enum Step {
     Next(Option<FoundLine>),
 }
 
-/// How many lines are behind, and whether an error was answered.
-#[derive(Clone, Copy)]
-struct Progress {
-    lines: u32,
-    is_stopped: bool,
-    ghost few: { lines ≤ MOST_LINES },
-}
-
 /// A name, as text.
 pub fn name_text(name: &[u8]) -> &str
     requires { is_name name.now ≡ true }
@@ -119,11 +112,7 @@ impl<R: Source> LogReader<R> {
         ensures code { result.code ≡ code }
         ensures line { result.line ≡ lines_behind self.old + 1 }
     {
-        self.progress.is_stopped = true;
-        LogError {
-            code,
-            line: self.progress.lines + 1,
-        }
+        self.progress.stop(code)
     }
 
     /// Takes a line that there is, or leaves one that is too long.
@@ -245,10 +234,7 @@ impl<R: Source> LogReader<R> {
             Ok(window) => Ok(LogReader {
                 window,
                 room: [0; MOST_BYTES],
-                progress: Progress {
-                    lines: 0,
-                    is_stopped: false,
-                },
+                progress: Progress::front(),
             }),
             Err((_, source)) => Err((
                 LogError {

@@ -1,6 +1,6 @@
 -- What the look-ups of a lawful plan find, in the words of its relations.
 use Rattle.rip_plan.proofs.ClashLemmas.{find_gives, find_none}
-use Rattle.std.proofs.Common.{◌≡◌, ℕ, zero, suc, ◌+◌, ◌⊎◌, inl, inr, List, [], ◌∷◌, Bool, true, ◌&&◌, Option, Some, None, refl, sym, ◌∙◌, ap, subst, arith}
+use Rattle.std.proofs.Common.{◌≡◌, ℕ, zero, suc, ◌+◌, ◌⊎◌, ◌↔◌, inl, inr, List, [], ◌∷◌, Bool, true, ◌&&◌, Option, Some, None, refl, sym, ◌∙◌, ap, subst, arith}
 use Rattle.std.proofs.lemmas.Bool.{cases_Bool, eq-eqb, eqb-true}
 use Rattle.std.specs.Prelude.{slice_get, ◌==◌, find}
 use Rattle.std.specs.Option.{option_or}
@@ -18,6 +18,7 @@ use Rattle.rip_plan.specs.declared.parts.Seat.TheVariants as seats
 use Rattle.rip_plan.specs.Seats as seated
 use Rattle.rip_plan.specs.Passes.{same_prefix}
 use Rattle.rip_plan.specs.Addresses.{holder_at}
+use Rattle.rip_plan.specs.Names.{number_of_name}
 use Rattle.rip_plan.specs.Network.{Network, addresses_of, number_of_prefix, found_at, is_on, is_of, numbers_where, is_carrying, first_carrying, is_owned, own_seat, cost_on, cost_at, direct_at}
 use Rattle.rip_plan.specs.Relations.{IsPrefix, IsInterface, IsConnected, HasAddress, HasOwnAddress, IsAt, IsInside, IsPlace, IsOwnWith, Carries, Touches, IsDirect, IsLawful}
 use Rattle.rip_plan.proofs.HeldAddressLemmas.{holder_gives, holder_none}
@@ -209,6 +210,14 @@ of_router_finds n r i l c h = numbers_find (is_of r) n.interfaces i h.interface 
 
 pub name_same : (a : List ℕ) → bytes_eq a a ≡ true
 name_same a = (bytes_eq-Decides a a).1 refl
+
+-- the item of a list of names that differ which is this one
+pub named_exact : (names : List (List ℕ)) → ((j k : ℕ) (name : List ℕ) → slice_get names j ≡ Some name → slice_get names k ≡ Some name → j ≡ k) → (name : List ℕ) (o : Option ℕ)
+    → o ≡ number_of_name name names → (k : ℕ) → (o ≡ Some k) ↔ (slice_get names k ≡ Some name)
+named_exact names differ name o e k = (
+  λ h. let (other, at, same) = at_first (λ m. bytes_eq m name) names k (sym e ∙ h) in grind (arith, bytes_eq-Decides other name),
+  λ h. let (j, other, found_at, at, same) = found (λ m. bytes_eq m name) names k name h ((bytes_eq-Decides name name).1 refl) in grind (arith, bytes_eq-Decides other name, differ j k name),
+)
 
 -- the interface that has an address on a link
 pub holder_finds : (n : Network) → IsLawful n → (i l a : ℕ) → HasAddress n i l a → holder_at l a (addresses_of n) ≡ Some i

@@ -11,6 +11,10 @@ pub is_one_of-map : {A : Type 0} (see : A → List ℕ) (name : List ℕ) (names
 is_one_of-map see name [] = refl
 is_one_of-map see name (n ∷ ns) = ap (λ b. bytes_eq (see n) name || b) (is_one_of-map see name ns)
 
+pub number_of_name-map : {A : Type 0} (see : A → List ℕ) (name : List ℕ) (n : ℕ) (names : List A) → position_from (λ m. bytes_eq m name) n (map see names) ≡ position_from (λ other. bytes_eq (see other) name) n names
+number_of_name-map see name n [] = refl
+number_of_name-map see name n (m ∷ ms) = ap (λ o. cond (bytes_eq (see m) name) (Some n) o) (number_of_name-map see name (n + 1) ms)
+
 -- ---- the numbers of names, as names come in
 
 absent : {A : Type 0} (test : A → Bool) (n : ℕ) (xs : List A) → list_any test xs ≡ false → position_from test n xs ≡ None

@@ -33,6 +33,8 @@ pub record IsIndexed (plan : Inside) : Type 0 where
       (λ r. numbers_where (is_of r) 0 plan.interfaces.items)
   pub names : (name : List ℕ) → get_by_text plan.names name
       ≡ number_of_name name (map string_bytes plan.links.items)
+  pub router_names : (name : List ℕ) → get_by_text plan.router_names name
+      ≡ number_of_name name (map string_bytes plan.routers.items)
   pub numbers : (p : Block) →
       get same_prefix plan.numbers p ≡ number_of_prefix p plan.prefixes.items
   pub carriers_room : length plan.carriers.items

@@ -2,9 +2,10 @@
 
 ghost use Rattle.std.specs.Prelude.{◌≡◌, ◌==◌, ◌+◌, ◌*◌, ◌<◌, ◌≤◌, ℕ, [], List, length, map, IfOk, string_bytes};
 ghost use Rattle.std.specs.List.{All, list_any};
-ghost use Rattle.std.specs.HashMap.{get};
+ghost use Rattle.std.specs.HashMap.{get, get_by_text};
 ghost use Rattle.rip_plan.specs.Network.{cost_at, each_below, is_of, is_on, numbers_where, pair_eq};
 ghost use Rattle.rip_plan.specs.Addresses.{holder_at};
+ghost use Rattle.rip_plan.specs.Names.{number_of_name};
 ghost use Rattle.rip_plan.specs.Seats.{is_kept};
 ghost use Rattle.rip_plan.specs.Rows.{AreCosts, AreFlags, AreOnLinks, AreOwners, IsLinkBelow, IsOwnerBelow, IsOwnerWithin, WritesCosts, cost_among};
 
@@ -25,6 +26,22 @@ pub(crate) fn numbers_of_addresses(
     for k in (0..held.len()).rev() {
         let here = held[k];
         numbers.insert((here.link, here.address.get()), here.interface)?;
+    }
+    Ok(numbers)
+}
+
+/// The number of each name, of the first that is so.
+pub(crate) fn numbers_of_names(
+    alloc: Global,
+    names: &[String],
+) -> Result<HashMap<String, usize>, AllocError>
+    ensures { IfOk result (λ m. (name : List ℕ) →
+        get_by_text m name ≡ number_of_name name (map string_bytes names.now)) }
+{
+    let mut numbers = HashMap::new(alloc);
+    for k in (0..names.len()).rev() {
+        let name = String::from_str(alloc, names[k].as_str())?;
+        numbers.insert(name, k)?;
     }
     Ok(numbers)
 }

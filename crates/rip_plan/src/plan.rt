@@ -8,10 +8,11 @@ ghost use Rattle.rip_plan.specs.PlanFaults.{IsFault, PlanFault};
 ghost use Rattle.rip_plan.specs.PlanOf.{IsPlanOfText};
 ghost use Rattle.rip_plan.specs.Fault.{Gives};
 ghost use Rattle.rip_plan.specs.Addresses.{holder_at};
+ghost use Rattle.rip_plan.specs.Names.{number_of_name};
 ghost use Rattle.rip_plan.specs.Network.{addresses_of, direct_at, first_carrying, found_at, is_of, is_on, network_in, network_of_sketch, number_of_prefix, numbers_where, own_seat};
 ghost use Rattle.rip_plan.specs.Draft.{sketch};
 ghost use Rattle.rip_plan.specs.Seats.{gateway_of};
-ghost use Rattle.rip_plan.specs.Relations.{Carries, HasAddress, HasTwoInterfaces, IsAt, IsAttached, IsConnected, IsDirect, IsGateway, IsInterface, IsKept, IsLawful, IsLeaf, IsLinkName, IsPlace, IsPrefix, IsRouterName, Poisons};
+ghost use Rattle.rip_plan.specs.Relations.{Carries, HasAddress, HasTwoInterfaces, IsAt, IsAttached, IsConnected, IsDirect, IsGateway, IsInterface, IsKept, IsLawful, IsLeaf, IsLinkName, IsOn, IsPlace, IsPrefix, IsRouterName, Poisons};
 
 use crate::addresses::all_addresses;
 use crate::draft::Draft;
@@ -39,12 +40,13 @@ pub struct Plan {
     prefixes: Vec<Prefix>,
     places: Vec<Place>,
     // Look-ups, so that no answer walks over the parts: the interfaces of each link and router,
-    // links by name, interfaces by link and address, prefixes, in rows one after another whether
-    // each link has each prefix, at which metric each router has it, and at which place as its own,
-    // and whether any router keeps a prefix.
+    // links and routers by name, interfaces by link and address, prefixes, in rows one after another
+    // whether each link has each prefix, at which metric each router has it, and at which place as
+    // its own, and whether any router keeps a prefix.
     on_link: Vec<Vec<usize>>,
     of_router: Vec<Vec<usize>>,
     names: HashMap<String, usize>,
+    router_names: HashMap<String, usize>,
     addresses: HashMap<(usize, u32), usize>,
     numbers: HashMap<Prefix, usize>,
     carriers: Vec<bool>,
@@ -92,6 +94,7 @@ fn plan_of(alloc: Global, draft: Draft) -> Result<Plan, AllocError>
         prefixes.len(),
     )?;
     let any_kept = index::any_kept(places.as_slice());
+    let router_names = index::numbers_of_names(alloc, draft.routers.as_slice())?;
     Ok(Plan {
         links: draft.links,
         routers: draft.routers,
@@ -102,6 +105,7 @@ fn plan_of(alloc: Global, draft: Draft) -> Result<Plan, AllocError>
         on_link,
         of_router,
         names: draft.numbers,
+        router_names,
         addresses,
         numbers,
         carriers,
@@ -212,6 +216,36 @@ impl Plan {
         self.links[link].as_str()
     }
 
+    /// The number of the router of this name, by the look-ups.
+    fn router_number(&self, name: &str) -> Option<usize>
+        ensures { result ≡ number_of_name name.now self.now.routers }
+    {
+        self.router_names.get(name).copied()
+    }
+
+    /// The number of the router of this name, if there is one.
+    pub fn router_named(&self, name: &str) -> Option<usize>
+        ensures { (r : ℕ) → (result ≡ Some r) ↔ IsRouterName self.now r name.now }
+    {
+        self.lawful();
+        self.router_number(name)
+    }
+
+    /// The number of the link of this name, by the look-ups.
+    fn link_number(&self, name: &str) -> Option<usize>
+        ensures { result ≡ number_of_name name.now self.now.links }
+    {
+        self.names.get(name).copied()
+    }
+
+    /// The number of the link of this name, if there is one.
+    pub fn link_named(&self, name: &str) -> Option<usize>
+        ensures { (l : ℕ) → (result ≡ Some l) ↔ IsLinkName self.now l name.now }
+    {
+        self.lawful();
+        self.link_number(name)
+    }
+
     /// The prefix with this number.
     pub fn prefix(&self, k: usize) -> Prefix
         requires { k < length self.now.prefixes }
@@ -269,6 +303,21 @@ impl Plan {
         ensures value { result.now ≡ numbers_where (is_of router) 0 self.now.interfaces }
     {
         self.of_router[router].as_slice()
+    }
+
+    /// Whether a router is on a link.
+    pub fn is_on(&self, router: usize, link: usize) -> bool
+        requires { router < length self.now.routers }
+        ensures { Decides result (IsOn self.now router link) }
+    {
+        self.lawful();
+        let numbers = self.of_router(router);
+        for j in 0..numbers.len() {
+            if self.interface(numbers[j]).link == link {
+                return true;
+            }
+        }
+        false
     }
 
     /// The number of the interface that has an address on a link, by the look-ups.

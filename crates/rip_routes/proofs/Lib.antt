@@ -1,0 +1,14 @@
+pub mod PlanLemmas
+pub mod LineLemmas
+pub mod ToldLemmas
+pub mod WayLemmas
+pub mod TellLemmas
+pub mod RowTellLemmas
+pub mod OwnLemmas
+pub mod GridLemmas
+pub mod TakeLemmas
+pub mod CauseLemmas
+pub mod LinesLemmas
+pub mod FitsLemmas
+pub mod NewLemmas
+pub mod AskLemmas

@@ -1,1 +1,12 @@
+pub mod CellViews
+pub mod Cells
+pub mod CollectsRoutes
+pub mod Judging
 pub mod OwnTables
+pub mod RouteLines
+pub mod TableFacts
+pub mod Takes
+pub mod Telling
+pub mod Tolds
+pub mod Ways
+pub mod Words

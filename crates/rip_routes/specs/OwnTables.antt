@@ -1,5 +1,5 @@
 -- What routers tell of their own tables.
-use Rattle.std.specs.Prelude.{◌≡◌, ℕ, ◌↔◌, ◌⊎◌, ◌<◌, ◌≤◌, Bool, true, false, IsTrue, List, [], ◌++◌, Contains, Option, Some, None, length, slice_get, unwrap_or}
+use Rattle.std.specs.Prelude.{◌≡◌, ℕ, ◌↔◌, ◌⊎◌, ◌<◌, ◌≤◌, Bool, true, false, IsTrue, List, [], ◌++◌, Contains, Option, Some, length, slice_get, unwrap_or}
 use Rattle.std.specs.Option.{option_map_or}
 use Rattle.rip_wire.specs.Prefix.{Block}
 use Rattle.rip_plan.specs.Network.{Network}

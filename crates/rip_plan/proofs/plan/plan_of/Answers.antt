@@ -102,6 +102,7 @@ invariant_of-result c =
           ∙ ap (λ m. each_below m (λ r. numbers_where (is_of r) 0 c.as_slice-4.result.now)) routers
           ∙ ap (λ is. each_below (length c.args.draft.routers.items) (λ r. numbers_where (is_of r) 0 is)) c.as_slice-4.ensures.value;
       names = λ bs. c.args.draft.numbered bs;
+      router_names = λ name. grind (arith, c.in_ok-router_names.ensures name);
       numbers = λ p. c.in_ok-prefixes.ensures.numbers p;
       carriers_room = grind (arith, c.in_ok-carriers.ensures.room);
       carriers = λ l k h. grind (arith, c.in_ok-carriers.ensures.flags l k);
