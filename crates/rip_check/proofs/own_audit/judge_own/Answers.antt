@@ -9,7 +9,8 @@ use Rattle.rip_check.proofs.own_audit.judge_own.Goals as goal
 
 pub unwrap-requires : goal.unwrap-requires
 unwrap-requires g c =
-    let first = rw c.in-Some-first_wrong_place.is at c.first_wrong_place.ensures in
+    let same = told_unheard c.args.plan.now (g.T.Table.state c.args.table.now) c.requires.told.unheard in
+    let first = rw same at (rw c.in-Some-first_wrong_place.is at c.first_wrong_place.ensures) in
     some_place _ c.wrong-place.result (rw (c.new.ensures.plan, c.new.ensures.table, c.new.ensures.prefix) at c.wrong-place.ensures.none) first.fails
 
 pub returns-in-Some-first_wrong_place-clause-verdict : goal.returns-in-Some-first_wrong_place-clause-verdict
@@ -18,10 +19,10 @@ returns-in-Some-first_wrong_place-clause-verdict g c =
     let state = g.T.Table.state c.args.table.now in
     let t = g.G.RouteTables.tables c.args.tables.now in
     let same = told_unheard n state c.requires.told.unheard in
-    let first = rw c.in-Some-first_wrong_place.is at c.first_wrong_place.ensures in
+    let first = rw same at (rw c.in-Some-first_wrong_place.is at c.first_wrong_place.ensures) in
     let place = rw (c.new.ensures.plan, c.new.ensures.table, c.new.ensures.prefix) at (rw c.unwrap.ensures at c.wrong-place.ensures.some) in
-    let is : IsNextWrong n (told n state) t None c.unwrap.result = record { first = rw place.0 (rw place.1 first); values = place.2 } in
-    (λ r at. c.in_default.ensures.none r (omega arith) at, rw same at is)
+    let is : IsNextWrong n state t None c.unwrap.result = record { first = rw place.0 (rw place.1 first); values = place.2 } in
+    (λ r at. c.in_default.ensures.none r (omega arith) at, is)
 
 pub returns-in-Some-first_wrong_place-clause-settled : goal.returns-in-Some-first_wrong_place-clause-settled
 returns-in-Some-first_wrong_place-clause-settled g c =
@@ -29,12 +30,12 @@ returns-in-Some-first_wrong_place-clause-settled g c =
     let state = g.T.Table.state c.args.table.now in
     let t = g.G.RouteTables.tables c.args.tables.now in
     let same = told_unheard n state c.requires.told.unheard in
-    let first = rw c.in-Some-first_wrong_place.is at c.first_wrong_place.ensures in
+    let first = rw same at (rw c.in-Some-first_wrong_place.is at c.first_wrong_place.ensures) in
     let place = rw (c.new.ensures.plan, c.new.ensures.table, c.new.ensures.prefix) at (rw c.unwrap.ensures at c.wrong-place.ensures.some) in
-    let is : IsNextWrong n (told n state) t None c.unwrap.result = record { first = rw place.0 (rw place.1 first); values = place.2 } in
+    let is : IsNextWrong n state t None c.unwrap.result = record { first = rw place.0 (rw place.1 first); values = place.2 } in
     (
       λ e. cc e,
-      λ right. absurd (not_right n state t c.lawful.ensures (g.G.RouteTables.are_tables c.args.tables.now) c.requires.told c.unwrap.result (rw same at is) right),
+      λ right. absurd (not_right n state t c.lawful.ensures (g.G.RouteTables.are_tables c.args.tables.now) c.requires.told c.unwrap.result (is) right),
     )
 
 pub returns-in-None-clause-verdict : goal.returns-in-None-clause-verdict
