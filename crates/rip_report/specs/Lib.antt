@@ -34,3 +34,4 @@ pub mod CapturePackets
 pub mod WatchText
 pub mod Films
 pub mod OwnText
+pub mod OwnRuns

@@ -18,6 +18,8 @@ use Rattle.rip_check.specs.OwnVerdicts.{IsNextUnlisted, IsNextWrong, IsOwnFailin
 use Rattle.rip_check.specs.OwnWalks.{OwnPacketsArrive}
 use Rattle.rip_check.specs.Paths.{IsLeast}
 use Rattle.rip_check.specs.declared.own_verdict.OwnPlace.{OwnPlace}
+use Rattle.rip_check.specs.declared.own_verdict.OwnVerdict.{OwnVerdict}
+use Rattle.rip_check.specs.declared.own_verdict.OwnVerdict.TheVariants as verdicts
 use Rattle.rip_check.specs.declared.own_verdict.Wrong.{Wrong}
 use Rattle.rip_check.specs.declared.own_verdict.Wrong.TheVariants as wrongs
 use Rattle.rip_report.specs.AuditText.{place_part}
@@ -220,3 +222,9 @@ pub record IsOwnJudged (n : Network) (t : OwnTables) (status : Status) : Type 0 
 -- choice of the ways; but for Refused, which says nothing of tables
 abbrev pub JudgesRightly : Network → OwnTables → Status → Type 0
 JudgesRightly n t status = status ≢ Refused → IsOwnJudged n t status
+
+-- the status of a verdict
+abbrev pub own_status : OwnVerdict → Status
+own_status verdicts.Settled = Settled
+own_status (verdicts.Unsettled f) = Unsettled
+own_status (verdicts.NoRoutes r) = IsUnclear
