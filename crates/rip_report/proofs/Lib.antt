@@ -28,4 +28,3 @@ pub mod SelectionLemmas
 pub mod LineTimeLemmas
 pub mod CapturedFileLemmas
 pub mod SaidFileLemmas
-pub mod OwnTextLemmas

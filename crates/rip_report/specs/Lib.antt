@@ -33,5 +33,3 @@ pub mod CaptureLogs
 pub mod CapturePackets
 pub mod WatchText
 pub mod Films
-pub mod OwnText
-pub mod OwnRuns
