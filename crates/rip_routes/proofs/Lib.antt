@@ -12,3 +12,4 @@ pub mod LinesLemmas
 pub mod FitsLemmas
 pub mod NewLemmas
 pub mod AskLemmas
+pub mod SayLemmas

@@ -1,0 +1,26 @@
+//! Laws of the definitions alone: functions that do nothing, whose contracts hold of every plan and
+//! every text.
+
+ghost use Rattle.std.specs.Prelude.{◌≡◌, ◌↔◌, ℕ, List, Option, Result};
+ghost use Rattle.rip_plan.specs.Network.{Network};
+ghost use Rattle.rip_plan.specs.Relations.{IsLawful};
+ghost use Rattle.rip_routes.specs.OwnTables.{OwnTables};
+ghost use Rattle.rip_routes.specs.RouteLines.{line_said};
+ghost use Rattle.rip_routes.specs.RouteText.{LineSays};
+ghost use Rattle.rip_routes.specs.Telling.{tell_line, tell_said};
+ghost use Rattle.rip_routes.specs.declared.error.RoutesCause.{RoutesCause};
+ghost use Rattle.rip_routes.specs.declared.told.Told.{Told};
+
+use rip_wire::laws;
+
+/// What is computed of a line is what the words of the format say: it says nothing, or tells a
+/// route, or is refused by the first rule that it breaks. A line is told by what it says.
+pub fn told_lines()
+    ensures says { (n : Network) (line : List ℕ) (said : Result (Option Told) RoutesCause) →
+        IsLawful n → (line_said n line ≡ said) ↔ LineSays n line said }
+    ensures tells { (n : Network) (t : OwnTables) (line : List ℕ) →
+        tell_line n t line ≡ tell_said t (line_said n line) }
+{
+    laws::prefix_texts();
+    laws::address_texts();
+}
