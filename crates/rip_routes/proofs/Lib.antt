@@ -13,3 +13,6 @@ pub mod FitsLemmas
 pub mod NewLemmas
 pub mod AskLemmas
 pub mod SayLemmas
+pub mod FirstsLemmas
+pub mod MakeLemmas
+pub mod TextLemmas

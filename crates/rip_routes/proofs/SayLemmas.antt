@@ -1,18 +1,18 @@
 -- What a line says in words is what is computed of it.
 use Rattle.std.proofs.Common.{◌≡◌, ◌≢◌, ◌⊎◌, ◌↔◌, ◌<◌, ◌≤◌, ◌^◌, ◌-◌, ◌+◌, ℕ, zero, suc, Bool, true, false, List, [], ◌∷◌, ◌++◌, length, Option, Some, None, Result, Ok, Err, cond, arith, refl, sym, subst, ◌∙◌, ap, inl, inr, ◌==◌, ◌&&◌, ◌||◌, eq-eqb, eqb-true}
-use Rattle.std.specs.Prelude.{Decides, codes, decimal, nat_le, nat_lt, option_and_then, option_map, slice_get, unwrap_or}
+use Rattle.std.specs.Prelude.{codes, decimal, nat_le, nat_lt, option_and_then, option_map, unwrap_or}
 use Rattle.std.specs.List.{AllByRecursion}
 use Rattle.std.specs.Fmt.{digits}
 use Rattle.std.specs.Str.{bytes_eq}
 use Rattle.std.specs.Io.BufRead.{strip_last}
-use Rattle.std.proofs.lemmas.Bool.{and_from, and_left, and_parts, and_right, cases_Bool, false_from_ne_true, or_cases, or_left, or_parts, or_right}
+use Rattle.std.proofs.lemmas.Bool.{and_parts, false_from_ne_true, or_cases, or_left, or_right}
 use Rattle.std.proofs.lemmas.Option.{none-some, same_Some}
 use Rattle.std.proofs.lemmas.Slice.Eq.{bytes_eq-Decides}
 use Rattle.rip_wire.specs.Address.{address_in, address_text}
 use Rattle.rip_wire.specs.Prefix.{Block, IsBlock, prefix_in, prefix_text}
 use Rattle.rip_plan.specs.Names.{number_of_name}
 use Rattle.rip_plan.specs.Network.{Network, direct_at, number_of_prefix}
-use Rattle.rip_plan.specs.Relations.{IsDirect, IsLawful, IsLinkName, IsOn, IsPrefix, IsRouterName}
+use Rattle.rip_plan.specs.Relations.{IsLawful, IsLinkName, IsRouterName}
 use Rattle.rip_plan.proofs.ItemLemmas.{cases_option}
 use Rattle.rip_plan.proofs.LookupLemmas.{named_exact, number_of_planned, prefix_of_number}
 use Rattle.rip_plan.proofs.PlanAnswerLemmas.{direct_exact}
@@ -27,7 +27,7 @@ use Rattle.rip_routes.specs.declared.told.Told.{Told}
 use Rattle.rip_routes.specs.declared.told.Way.{Way}
 use Rattle.rip_routes.specs.declared.told.Way.TheVariants.{Here, To}
 use Rattle.rip_routes.specs.RouteLines.{before_comma, direct_in, hop_in, is_on_link, is_silent, line_said, link_in, metric_in, over_in, router_in, told_alone, told_by, told_by_bare, told_by_fields, told_by_line, told_hop, told_of_prefix, told_of_router, told_rest, told_unreachable, told_with}
-use Rattle.rip_routes.specs.RouteText.{BreakRule, FieldsSay, GiveRoute, GiveWay, HasFields, HasItself, HasRest, IsBeforeComma, IsFromComma, IsMetricText, IsOwnMetric, IsPrefixText, IsWay, KeepMetric, LineSays, NamesPlace, SaysNothing, TellRoute}
+use Rattle.rip_routes.specs.RouteText.{BreakRule, FieldsSay, GiveRoute, GiveWay, HasFields, HasItself, HasRest, IsBeforeComma, IsFromComma, IsMetricText, IsOwnMetric, IsWay, KeepMetric, LineSays, NamesPlace, SaysNothing, TellRoute}
 use Rattle.rip_routes.specs.OwnTables.{OwnTables}
 use Rattle.rip_routes.specs.Telling.{tell_line, tell_said}
 use Rattle.rip_routes.proofs.PlanLemmas.{direct_bounds, on_link_exact}

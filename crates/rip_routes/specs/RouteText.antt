@@ -1,14 +1,17 @@
 -- What the text of routers' own tables says, in the words of its format.
-use Rattle.std.specs.Prelude.{◌≡◌, ◌≢◌, ◌⊎◌, ℕ, ◌<◌, ◌≤◌, ◌^◌, List, [], ◌∷◌, ◌++◌, codes, decimal, length, Option, Some, None, Result, Ok, Err, ⊤}
+use Rattle.std.specs.Prelude.{◌≡◌, ◌≢◌, ◌⊎◌, ◌↔◌, ℕ, ◌+◌, ◌<◌, ◌≤◌, ◌^◌, true, slice_get, List, [], ◌∷◌, ◌++◌, codes, decimal, length, Option, Some, None, Result, Ok, Err, ⊤}
 use Rattle.std.specs.List.{AllByRecursion}
 use Rattle.rip_wire.specs.Address.{address_text}
 use Rattle.rip_wire.specs.Prefix.{Block, IsBlock, prefix_text}
 use Rattle.rip_plan.specs.Network.{Network}
 use Rattle.rip_plan.specs.Relations.{IsDirect, IsLinkName, IsOn, IsPrefix, IsRouterName}
-use Rattle.rip_log.specs.LogText.{AreFields, IsBare}
-use Rattle.rip_log.specs.declared.limits.TheConstants.{MOST_LINE_BYTES}
+use Rattle.rip_log.specs.LogText.{AreFields, AreLines, IsBare}
+use Rattle.rip_log.specs.declared.limits.TheConstants.{MOST_LINE_BYTES, MOST_LINES}
+use Rattle.rip_table.specs.declared.limits.TheConstants.{MOST_PREFIXES}
+use Rattle.rip_routes.specs.OwnTables.{OwnRoute, OwnTables}
 use Rattle.rip_routes.specs.declared.error.RoutesCause.{RoutesCause}
-use Rattle.rip_routes.specs.declared.error.RoutesCause.TheVariants.{Fields, LongLine, Metric, Prefix, Router, Way as BadWay}
+use Rattle.rip_routes.specs.declared.error.RoutesCause.TheVariants.{Changed, Fields, LongLine, Metric, Prefix, Router, TooManyLines, TooManyPrefixes, Way as BadWay}
+use Rattle.rip_routes.specs.declared.error.RoutesError.{RoutesError}
 use Rattle.rip_routes.specs.declared.next_hop.NextHop.TheVariants.{Over, Via}
 use Rattle.rip_routes.specs.declared.told.Told.{Told}
 use Rattle.rip_routes.specs.declared.told.Way.{Way}
@@ -144,3 +147,121 @@ abbrev pub LineSays : Network → List ℕ → Result (Option Told) RoutesCause 
 LineSays n line said =
     ((MOST_LINE_BYTES < length line) × (said ≡ Err LongLine))
     ⊎ ((fields : List (List ℕ)) × HasFields line fields × FieldsSay n fields said)
+
+-- ---- what routes make of tables
+
+-- these items are each of those that stand somewhere, once, in the order in which they first stand:
+-- where a later one stands, each earlier one stands before it
+pub record AreFirsts {A : Type 0} (Stands : ℕ → A → Type 0) (items : List A) : Type 0 where
+  pub once : (i j : ℕ) (x : A) → slice_get items i ≡ Some x → slice_get items j ≡ Some x → i ≡ j
+  pub all : (x : A) → ((i : ℕ) × (slice_get items i ≡ Some x)) ↔ ((k : ℕ) × Stands k x)
+  pub order : (i j l : ℕ) (x y : A) → i < j → slice_get items i ≡ Some x
+      → slice_get items j ≡ Some y → Stands l y → (k : ℕ) × Stands k x × (k < l)
+
+-- route k of these is told of router r and prefix p
+abbrev pub IsOfPlace : List Told → ℕ → Block → ℕ → Told → Type 0
+IsOfPlace tolds r p k told =
+    (slice_get tolds k ≡ Some told) × (told.router ≡ r) × (told.prefix ≡ p)
+
+-- and has this way
+abbrev pub HasWay : List Told → ℕ → Block → ℕ → Way → Type 0
+HasWay tolds r p k way = (told : Told) × IsOfPlace tolds r p k told × (told.way ≡ Some way)
+
+-- route k of these is told of a prefix that the plan has not
+abbrev pub HasOther : Network → List Told → ℕ → Block → Type 0
+HasOther n tolds k p =
+    (told : Told) × (slice_get tolds k ≡ Some told) × (told.prefix ≡ p)
+    × ((j : ℕ) → ¬ IsPrefix n j p)
+
+-- the route of a place of which something is told: it has the metric that each of them tells, is
+-- the router's own where one of them says so, and has their next hops
+pub record MakeRoute (tolds : List Told) (r : ℕ) (p : Block) (route : OwnRoute) : Type 0 where
+  pub some : (k : ℕ) × (told : Told) × IsOfPlace tolds r p k told
+  pub metric : (k : ℕ) (told : Told) → IsOfPlace tolds r p k told → told.metric ≡ route.metric
+  pub here : (route.here ≡ true) ↔ ((k : ℕ) × HasWay tolds r p k Here)
+  pub hops : AreFirsts (λ k hop. HasWay tolds r p k (To hop)) route.hops
+
+-- the route of a place, or none where nothing is told of it
+abbrev pub MakePlace : List Told → ℕ → Block → Option OwnRoute → Type 0
+MakePlace tolds r p None = (k : ℕ) (told : Told) → ¬ IsOfPlace tolds r p k told
+MakePlace tolds r p (Some route) = MakeRoute tolds r p route
+
+-- routes make tables: the prefixes are the plan's, and then the others of which something is told;
+-- a router is listed where something is told of it
+pub record MakeTables (n : Network) (tolds : List Told) (t : OwnTables) : Type 0 where
+  pub others : List Block
+  pub prefixes : t.prefixes ≡ n.prefixes ++ others
+  pub firsts : AreFirsts (HasOther n tolds) others
+  pub listed : (r : ℕ) → (t.listed r ≡ true)
+      ↔ ((k : ℕ) × (told : Told) × (slice_get tolds k ≡ Some told) × (told.router ≡ r))
+  pub routes : (r : ℕ) (p : Block) → MakePlace tolds r p (t.routes r p)
+
+-- ---- which routes are refused
+
+-- the route changes the metric of its place in these tables
+pub record IsChange (t : OwnTables) (told : Told) (p : Block) (old new : ℕ) : Type 0 where
+  pub place : p ≡ told.prefix
+  pub route : OwnRoute
+  pub stands : t.routes told.router told.prefix ≡ Some route
+  pub stood : old ≡ route.metric
+  pub told_now : new ≡ told.metric
+  pub differ : route.metric ≢ told.metric
+
+-- its prefix is one too many: it is not in the list, which is full
+pub record IsTooMany (t : OwnTables) (told : Told) : Type 0 where
+  pub absent : (k : ℕ) → slice_get t.prefixes k ≢ Some told.prefix
+  pub full : MOST_PREFIXES ≤ length t.prefixes
+
+-- a route is refused, where these are the tables before it
+abbrev pub IsRefused : OwnTables → Told → RoutesCause → Type 0
+IsRefused t told (Changed p old new) = IsChange t told p old new
+IsRefused t told TooManyPrefixes = IsTooMany t told
+IsRefused t told other = ⊥
+
+-- none of these routes is refused, where the tables before it are what those before it make
+abbrev pub AreAccepted : Network → List Told → Type 0
+AreAccepted n tolds =
+    (front rest : List Told) (told : Told) (t : OwnTables) (cause : RoutesCause)
+    → tolds ≡ front ++ told ∷ rest → MakeTables n front t → ¬ IsRefused t told cause
+
+-- ---- what a text tells
+
+-- the routes that lines tell, in order; the others say nothing
+abbrev pub AreTold : Network → List (List ℕ) → List Told → Type 0
+AreTold n [] tolds = tolds ≡ []
+AreTold n (line ∷ lines) [] = LineSays n line (Ok None) × AreTold n lines []
+AreTold n (line ∷ lines) (told ∷ tolds) =
+    (LineSays n line (Ok None) × AreTold n lines (told ∷ tolds))
+    ⊎ (LineSays n line (Ok (Some told)) × AreTold n lines tolds)
+
+-- a text tells these tables: there are not too many lines, each tells a route or says nothing, and
+-- no route is refused
+pub record TellTables (n : Network) (text : List ℕ) (t : OwnTables) : Type 0 where
+  pub lines : List (List ℕ)
+  pub are_lines : AreLines text lines
+  pub few : length lines ≤ MOST_LINES
+  pub tolds : List Told
+  pub are_told : AreTold n lines tolds
+  pub accepted : AreAccepted n tolds
+  pub made : MakeTables n tolds t
+
+-- why a line is refused that comes after k others, which tell these routes: there are too many, or
+-- it breaks a rule by itself, or its route is refused
+pub data IsFault (n : Network) (k : ℕ) (tolds : List Told) (line : List ℕ) (cause : RoutesCause)
+    : Type 0 where
+  too_many : k ≡ MOST_LINES → cause ≡ TooManyLines → IsFault n k tolds line cause
+  bad : k < MOST_LINES → LineSays n line (Err cause) → IsFault n k tolds line cause
+  refused : k < MOST_LINES → (told : Told) → LineSays n line (Ok (Some told)) → (t : OwnTables)
+      → MakeTables n tolds t → IsRefused t told cause → IsFault n k tolds line cause
+
+-- the first line of a text that is refused, and its lowest code
+pub record RefuseText (n : Network) (text : List ℕ) (e : RoutesError) : Type 0 where
+  pub before : List (List ℕ)
+  pub bad : List ℕ
+  pub after : List (List ℕ)
+  pub are_lines : AreLines text (before ++ bad ∷ after)
+  pub number : e.line ≡ length before + 1
+  pub tolds : List Told
+  pub are_told : AreTold n before tolds
+  pub accepted : AreAccepted n tolds
+  pub fault : IsFault n (length before) tolds bad e.cause
