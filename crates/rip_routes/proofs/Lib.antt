@@ -12,3 +12,7 @@ pub mod LinesLemmas
 pub mod FitsLemmas
 pub mod NewLemmas
 pub mod AskLemmas
+pub mod SayLemmas
+pub mod FirstsLemmas
+pub mod MakeLemmas
+pub mod TextLemmas

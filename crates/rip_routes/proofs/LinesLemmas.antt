@@ -25,7 +25,7 @@ use Rattle.rip_routes.specs.Telling.{new_tables, tell_line, tell_lines, tell_sai
 use Rattle.rip_routes.proofs.CauseLemmas.{line_cause}
 
 -- the lines after those that were told
-tells_on : (n : Network) (k : ℕ) (taken rest : List (List ℕ)) (t u : OwnTables) → tell_lines n k taken t ≡ Ok u → tell_lines n k (taken ++ rest) t ≡ tell_lines n (k + length taken) rest u
+pub tells_on : (n : Network) (k : ℕ) (taken rest : List (List ℕ)) (t u : OwnTables) → tell_lines n k taken t ≡ Ok u → tell_lines n k (taken ++ rest) t ≡ tell_lines n (k + length taken) rest u
 tells_on n k [] rest t u h =
     let same : t ≡ u = of_ok h in ap (tell_lines n k rest) same ∙ ap (λ (j : ℕ). tell_lines n j rest u) (omega arith)
   where
@@ -40,7 +40,7 @@ tells_on n k (line ∷ lines) rest t u h = by (nat_le 1000000 k) (tell_line n t 
     by false (Err cause) e later = absurd (cc e)
     by false (Ok v) e later = later v e ∙ ap (λ (j : ℕ). tell_lines n j rest u) (omega arith)
 
-next_line : (n : Network) (k : ℕ) (line : List ℕ) (rest : List (List ℕ)) (t : OwnTables) (r : Result OwnTables RoutesCause) → k < 1000000 → tell_line n t line ≡ r
+pub next_line : (n : Network) (k : ℕ) (line : List ℕ) (rest : List (List ℕ)) (t : OwnTables) (r : Result OwnTables RoutesCause) → k < 1000000 → tell_line n t line ≡ r
     → tell_lines n k (line ∷ rest) t ≡ then_tell (k + 1) r (tell_lines n (k + 1) rest)
 next_line n k line rest t r few h =
     let room : nat_le 1000000 k ≡ false = grind (arith, few) in

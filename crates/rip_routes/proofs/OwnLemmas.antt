@@ -35,7 +35,7 @@ split_item (z ∷ zs) x y zero h = inl h
 split_item (z ∷ zs) x y (suc k) h = elim (split_item zs x y k h) [ inl e ↦ inl e | inr e ↦ inr (ap suc e.0, e.1) ]
 
 -- a new item that is not among the others
-once_more : {A : Type 0} (xs : List A) (x : A) → ((j k : ℕ) (y : A) → slice_get xs j ≡ Some y → slice_get xs k ≡ Some y → j ≡ k) → ((j : ℕ) → slice_get xs j ≡ Some x → ⊥)
+pub once_more : {A : Type 0} (xs : List A) (x : A) → ((j k : ℕ) (y : A) → slice_get xs j ≡ Some y → slice_get xs k ≡ Some y → j ≡ k) → ((j : ℕ) → slice_get xs j ≡ Some x → ⊥)
     → (j k : ℕ) (y : A) → slice_get (xs ++ x ∷ []) j ≡ Some y → slice_get (xs ++ x ∷ []) k ≡ Some y → j ≡ k
 once_more {A} xs x once none j k y h i = by (split_item xs x y j h) (split_item xs x y k i)
   where
@@ -147,7 +147,7 @@ module _ (n : Network) (told : Told) (is : IsTold n told) where
       way_good route told.way refl same (λ sixteen. good.unreachable (same ∙ sixteen)) good.once
 
 -- a line that is told is of a place of which nothing was told, with room, or of its metric
-told_cases : (t : OwnTables) (told : Told) (o : Option OwnRoute) (u : OwnTables) → tell_at t told o ≡ Ok u
+pub told_cases : (t : OwnTables) (told : Told) (o : Option OwnRoute) (u : OwnTables) → tell_at t told o ≡ Ok u
     → ((route : OwnRoute) → o ≡ Some route → route.metric ≡ told.metric) × (o ≡ None → is_full t told.prefix ≡ false)
 told_cases t told None u h = (λ route e. absurd (none-some route e), λ _. by (is_full t told.prefix) h)
   where

@@ -4,6 +4,7 @@ pub mod CollectsRoutes
 pub mod Judging
 pub mod OwnTables
 pub mod RouteLines
+pub mod RouteText
 pub mod TableFacts
 pub mod Takes
 pub mod Telling

@@ -1,12 +1,14 @@
 -- What a line tells of a router's table, or its first fault: the definitions that compute.
-use Rattle.std.specs.Prelude.{ℕ, ◌-◌, ◌==◌, nat_le, Bool, ◌&&◌, ◌||◌, if◌then◌else◌, List, [], ◌∷◌, codes, length, Option, Some, None, Result, Ok, Err, option_and_then, option_map, unwrap_or}
+use Rattle.std.specs.Prelude.{ℕ, ◌-◌, ◌==◌, nat_le, nat_lt, Bool, ◌&&◌, ◌||◌, if◌then◌else◌, List, [], ◌∷◌, codes, length, Option, Some, None, Result, Ok, Err, option_and_then, option_map, unwrap_or}
 use Rattle.std.specs.List.{list_any}
 use Rattle.std.specs.Str.{bytes_eq}
+use Rattle.std.specs.Io.BufRead.{strip_last}
 use Rattle.rip_wire.specs.Address.{address_in}
 use Rattle.rip_wire.specs.Prefix.{Block, prefix_in}
 use Rattle.rip_plan.specs.Names.{number_of_name}
 use Rattle.rip_plan.specs.Network.{Network, direct_at, number_of_prefix}
 use Rattle.rip_log.specs.Fields.{fields_of, is_comment}
+use Rattle.rip_log.specs.declared.limits.TheConstants.{MOST_LINE_BYTES}
 use Rattle.rip_routes.specs.declared.error.RoutesCause.{RoutesCause}
 use Rattle.rip_routes.specs.declared.error.RoutesCause.TheVariants as causes
 use Rattle.rip_routes.specs.declared.next_hop.NextHop.{NextHop}
@@ -130,3 +132,9 @@ told_by_line n (first ∷ rest) =
 -- what a line says that is not too long, without a carriage return at its end
 abbrev pub told_by_bare : Network → List ℕ → Result (Option Told) RoutesCause
 told_by_bare n bare = told_by_line n (fields_of (before_comma bare))
+
+-- what a line says; that it is too long comes first
+abbrev pub line_said : Network → List ℕ → Result (Option Told) RoutesCause
+line_said n line =
+    if nat_lt MOST_LINE_BYTES (length line) then Err causes.LongLine
+    else told_by_bare n (strip_last 13 line)

@@ -5,6 +5,7 @@ mod cell;
 mod collecting;
 mod error;
 mod grid;
+pub mod laws;
 mod line;
 mod next_hop;
 mod route_tables;

@@ -17,6 +17,8 @@ mod log;
 #[cfg(test)]
 mod plan;
 #[cfg(test)]
+mod routes;
+#[cfg(test)]
 mod table;
 #[cfg(test)]
 mod wire;

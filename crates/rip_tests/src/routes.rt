@@ -1,0 +1,283 @@
+//! The routers' own tables: what lines come to, and which are refused.
+
+use crate::examples::TRIANGLE;
+use crate::fixtures::{metric, plan_of};
+use rip_log::{FromRead, MOST_LINE_BYTES, TextReader};
+use rip_plan::Plan;
+use rip_routes::{GridRoutes, NextHop, RouteTables, RoutesCause, RoutesError, collect_routes};
+use rip_table::MOST_PREFIXES;
+use rip_wire::{Address, Prefix};
+use std::alloc::{AllocError, Global};
+use std::hash::{BuildHasherDefault, FoldHasher};
+use std::process::Abort;
+use std::test::Fail;
+
+type Hasher = BuildHasherDefault<FoldHasher>;
+
+/// The tables of a text, or why it is refused.
+fn told(
+    rt: &impl Abort,
+    alloc: Global,
+    plan: &Plan,
+    text: &[u8],
+) -> Result<GridRoutes<Hasher>, RoutesError> {
+    let Ok(mut reader) = TextReader::new(alloc, FromRead::new(text)) else {
+        panic!(rt; "no memory");
+    };
+    collect_routes(alloc, plan, &mut reader, Hasher::new(), Hasher::new())
+}
+
+/// The tables of a text that is not refused.
+fn tables(rt: &impl Abort, alloc: Global, plan: &Plan, text: &[u8]) -> GridRoutes<Hasher> {
+    match told(rt, alloc, plan, text) {
+        Ok(tables) => tables,
+        Err(_) => panic!(rt; "no tables"),
+    }
+}
+
+/// Expects that a text is refused.
+fn expect_refused(
+    rt: &impl Abort,
+    alloc: Global,
+    plan: &Plan,
+    text: &[u8],
+    line: u32,
+    cause: RoutesCause,
+) {
+    match told(rt, alloc, plan, text) {
+        Ok(_) => panic!(rt; "tables"),
+        Err(error) => assert!(rt; error == RoutesError { line, cause }),
+    }
+}
+
+/// Expects the route of a router for the prefix of a number.
+fn expect_route<T: RouteTables>(
+    rt: &impl Abort,
+    tables: &T,
+    (router, k): (usize, usize),
+    (number, is_here): (u32, bool),
+    hops: &[NextHop],
+) {
+    if k >= tables.prefix_count() {
+        panic!(rt; "no prefix");
+    }
+    assert!(rt; tables.metric(router, k).get() == number);
+    assert!(rt; tables.is_here(router, k) == is_here);
+    assert!(rt; tables.next_hops(router, k) == hops);
+}
+
+/// The next hop at an address.
+fn via(rt: &impl Abort, address: &str) -> NextHop {
+    NextHop::Via(Address::parse(address).expect(rt, "an address"))
+}
+
+/// Lines of each kind: ways of one place, one of them told again, commas, carriage returns, totals, blank
+/// lines and comments, and a prefix that the plan has not.
+const ROUTES: &str = "r1 10.1.0.0/16 here
+routes: 3 routers, 3 prefixes
+r1 10.2.0.0/16 2 over a\r
+r1 10.2.0.0/16 2 via 10.3.0.3, from 10.3.0.3, 0:12 ago
+r1 10.2.0.0/16 2 over a
+
+\t# a comment
+ , nothing
+r1 10.3.0.0/16 16 over c
+expect: no more
+r3 10.3.0.0/16 2 here
+r3 10.3.0.0/16 2 over b
+r3 10.9.0.0/16 here
+r3 10.1.0.0/16 16 unreachable
+r3 10.1.0.0/16 16 via 10.2.0.2
+r3 10.2.0.0/16 16 here";
+
+/// What these lines tell of routers 1 and 3.
+fn expect_routes<T: RouteTables>(rt: &impl Abort, tables: &T) {
+    expect_route(rt, tables, (0, 0), (1, true), &[]);
+    let hops = [NextHop::Over(0), via(rt, "10.3.0.3")];
+    expect_route(rt, tables, (0, 1), (2, false), &hops);
+    expect_route(rt, tables, (0, 2), (16, false), &[]);
+    expect_route(rt, tables, (2, 2), (2, true), &[NextHop::Over(1)]);
+    expect_route(rt, tables, (2, 3), (1, true), &[]);
+    expect_route(rt, tables, (2, 0), (16, false), &[]);
+    expect_route(rt, tables, (2, 1), (16, false), &[]);
+}
+
+#[test]
+fn lines_of_each_kind(rt: HostRuntime) {
+    let plan = plan_of(&rt, rt.alloc(), TRIANGLE);
+    let tables = tables(&rt, rt.alloc(), &plan, ROUTES.as_bytes());
+    assert!(rt; tables.prefix_count() == 4);
+    assert!(rt; Prefix::parse("10.9.0.0/16") == Some(tables.prefix(3)));
+    assert!(rt; tables.is_listed(0) && !tables.is_listed(1) && tables.is_listed(2));
+    expect_routes(&rt, &tables);
+    expect_route(&rt, &tables, (1, 3), (16, false), &[]);
+    expect_route(&rt, &tables, (0, 3), (16, false), &[]);
+}
+
+/// Two routers, with a prefix at cost 5 on the link between them.
+const COSTS: &str = r#"version = 1
+
+[[link]]
+name = "m"
+prefixes = ["10.1.0.0/16"]
+
+[[router]]
+name = "x"
+
+[[router.interface]]
+link = "m"
+address = "10.1.0.1"
+cost = 5
+
+[[router]]
+name = "y"
+
+[[router.interface]]
+link = "m"
+address = "10.1.0.2"
+"#;
+
+/// The router's own route without a metric has the plan's, or 1.
+#[test]
+fn own_routes_without_a_metric(rt: HostRuntime) {
+    let plan = plan_of(&rt, rt.alloc(), COSTS);
+    let text = "x 10.1.0.0/16 here\ny 10.1.0.0/16 here\nx 10.2.0.0/16 here\n";
+    let tables = tables(&rt, rt.alloc(), &plan, text.as_bytes());
+    expect_route(&rt, &tables, (0, 0), (5, true), &[]);
+    expect_route(&rt, &tables, (1, 0), (1, true), &[]);
+    expect_route(&rt, &tables, (0, 1), (1, true), &[]);
+}
+
+/// Texts and the cause for which their last line is refused, the second.
+const REFUSED: [(&str, RoutesCause); 26] = [
+    ("#\nr1", RoutesCause::Fields),
+    ("#\nr1 10.1.0.0/16", RoutesCause::Fields),
+    ("#\nr1 10.1.0.0/16 , here", RoutesCause::Fields),
+    ("#\nr1 10.1.0.0/16 2 over a b", RoutesCause::Fields),
+    (
+        "#\nrouter r1 prefix 10.1.0.0/16 unclear: missing on a",
+        RoutesCause::Fields,
+    ),
+    ("#\nroutes 3 routers", RoutesCause::Router),
+    ("#\nr4 10.1.0.0/16 here", RoutesCause::Router),
+    ("#\nR1 a 0 nothing", RoutesCause::Router),
+    ("#\nr1 a not heard", RoutesCause::Prefix),
+    ("#\nr1 10.1.0.0 here", RoutesCause::Prefix),
+    ("#\nr1 10.1.0.1/16 0 nothing", RoutesCause::Prefix),
+    ("#\nr1 10.1.0.0/16 here over a", RoutesCause::Metric),
+    ("#\nr1 10.1.0.0/16 unclear: two ways", RoutesCause::Metric),
+    ("#\nr1 10.1.0.0/16 0 over a", RoutesCause::Metric),
+    ("#\nr1 10.1.0.0/16 17 over a", RoutesCause::Metric),
+    ("#\nr1 10.1.0.0/16 02 over a", RoutesCause::Metric),
+    ("#\nr1 10.1.0.0/16 0x2 nothing", RoutesCause::Metric),
+    ("#\nr1 10.1.0.0/16 3", RoutesCause::Way),
+    ("#\nr1 10.1.0.0/16 unreachable", RoutesCause::Way),
+    ("#\nr1 10.1.0.0/16 15 unreachable", RoutesCause::Way),
+    ("#\nr1 10.1.0.0/16 2 over b", RoutesCause::Way),
+    ("#\nr1 10.1.0.0/16 16 over b", RoutesCause::Way),
+    ("#\nr1 10.1.0.0/16 2 over d", RoutesCause::Way),
+    ("#\nr1 10.1.0.0/16 2 via 10.1.0.02", RoutesCause::Way),
+    ("#\nr1 10.1.0.0/16 2 by 10.1.0.2", RoutesCause::Way),
+    ("#\nr1 10.1.0.0/16 2 here\r\r", RoutesCause::Way),
+];
+
+#[test]
+fn lines_are_refused(rt: HostRuntime) {
+    let plan = plan_of(&rt, rt.alloc(), TRIANGLE);
+    for (text, cause) in REFUSED {
+        expect_refused(&rt, rt.alloc(), &plan, text.as_bytes(), 2, cause);
+    }
+}
+
+/// A line gives the place another metric, also where one of them is 16.
+#[test]
+fn a_metric_is_changed(rt: HostRuntime) {
+    let plan = plan_of(&rt, rt.alloc(), TRIANGLE);
+    for (text, old, new) in [
+        ("r1 10.2.0.0/16 2 over a\n\nr1 10.2.0.0/16 3 over a", 2, 3),
+        (
+            "r1 10.2.0.0/16 2 over a\n\nr1 10.2.0.0/16 16 unreachable",
+            2,
+            16,
+        ),
+        (
+            "r1 10.2.0.0/16 16 over a\nr2 10.2.0.0/16 here\nr1 10.2.0.0/16 here",
+            16,
+            1,
+        ),
+    ] {
+        let cause = RoutesCause::Changed {
+            prefix: Prefix::parse("10.2.0.0/16").expect(&rt, "a prefix"),
+            old: metric(&rt, old),
+            new: metric(&rt, new),
+        };
+        expect_refused(&rt, rt.alloc(), &plan, text.as_bytes(), 3, cause);
+    }
+}
+
+/// A route whose line has so many bytes, carriage return included.
+fn long_line(alloc: Global, front: &str, size: usize) -> Result<Vec<u8>, AllocError> {
+    let mut text = Vec::new(alloc);
+    text.extend_from_slice(front.as_bytes())?;
+    text.resize(size.saturating_sub(1), b'x')?;
+    text.extend_from_slice(b"\r\nr1")?;
+    Ok(text)
+}
+
+/// A line that is too long is refused, whatever it says.
+#[test]
+fn long_lines(rt: HostRuntime) -> Result<(), Fail> {
+    let plan = plan_of(&rt, rt.alloc(), TRIANGLE);
+    for front in ["#", ",", "routes: ", "r1 10.1.0.0/16 here,"] {
+        let text = long_line(rt.alloc(), front, MOST_LINE_BYTES)?;
+        expect_refused(
+            &rt,
+            rt.alloc(),
+            &plan,
+            text.as_slice(),
+            2,
+            RoutesCause::Fields,
+        );
+        let text = long_line(rt.alloc(), front, MOST_LINE_BYTES.saturating_add(1))?;
+        expect_refused(
+            &rt,
+            rt.alloc(),
+            &plan,
+            text.as_slice(),
+            1,
+            RoutesCause::LongLine,
+        );
+    }
+    Ok(())
+}
+
+/// The prefix of a host.
+fn host(rt: &impl Abort, number: u32) -> Prefix {
+    Prefix::new(Address::new(number), 32).expect(rt, "a prefix")
+}
+
+/// A line for each of so many hosts.
+fn hosts(rt: &impl Abort, alloc: Global, count: u32) -> Result<String, AllocError> {
+    let mut text = String::new(alloc);
+    for number in 0..count {
+        text.push_str("r2 ")?;
+        text.push_str(host(rt, number).encode(&mut [0; 18]))?;
+        text.push_str(" 2 over a\n")?;
+    }
+    Ok(text)
+}
+
+/// With the plan's three there are 2,048 prefixes, and no more.
+#[test]
+fn too_many_prefixes(rt: HostRuntime) -> Result<(), Fail> {
+    let plan = plan_of(&rt, rt.alloc(), TRIANGLE);
+    let mut text = hosts(&rt, rt.alloc(), 2_045)?;
+    let tables = tables(&rt, rt.alloc(), &plan, text.as_bytes());
+    assert!(rt; tables.prefix_count() == MOST_PREFIXES);
+    expect_route(&rt, &tables, (1, 2_047), (2, false), &[NextHop::Over(0)]);
+    text.push_str("r1 0.0.0.7/32 here\nr1 10.1.0.0/16 here\n")?;
+    text.push_str("r1 0.1.0.0/32 16 unreachable\n")?;
+    let cause = RoutesCause::TooManyPrefixes;
+    expect_refused(&rt, rt.alloc(), &plan, text.as_bytes(), 2_048, cause);
+    Ok(())
+}
