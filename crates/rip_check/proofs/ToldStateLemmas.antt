@@ -1,14 +1,14 @@
 -- The table of what routers tell, by its cells.
-use Rattle.std.proofs.Common.{◌≡◌, ◌≢◌, ◌==◌, ℕ, zero, suc, ◌<◌, ◌≤◌, ◌⊎◌, inl, inr, Bool, true, false, List, [], ◌∷◌, ◌++◌, Option, None, Some, if◌then◌else◌, option_and_then, slice_get, get_or, length, refl, sym, ap, ◌∙◌, arith}
-use Rattle.std.proofs.lemmas.Option.{get_or_from_slice_get, slice_get-get_or, slice_get_within}
+use Rattle.std.proofs.Common.{◌≡◌, ◌≢◌, ℕ, zero, suc, ◌<◌, ◌≤◌, ◌⊎◌, inl, inr, true, false, List, [], ◌∷◌, ◌++◌, Option, None, Some, option_and_then, slice_get, get_or, length, refl, sym, ap, ◌∙◌, arith}
+use Rattle.std.proofs.lemmas.Option.{slice_get-get_or, slice_get_within}
 use Rattle.rip_wire.specs.Prefix.{Block}
 use Rattle.rip_plan.specs.Network.{Network, number_of_prefix}
 use Rattle.rip_plan.specs.Relations.{IsInterface, IsLawful}
 use Rattle.rip_plan.specs.declared.parts.Interface.{Interface}
-use Rattle.rip_table.specs.State.{AreDistinct, Fits, IsShown, IsState, is_among}
+use Rattle.rip_table.specs.State.{AreDistinct, Fits, IsShown, IsState}
 use Rattle.rip_table.proofs.NumberLemmas.{number-at, number-none, number-some}
 use Rattle.rip_table.proofs.PrefixListLemmas.{is_among-item}
-use Rattle.rip_routes.specs.OwnTables.{AreOwnTables, FitsOwn, OwnTables, route_at}
+use Rattle.rip_routes.specs.OwnTables.{AreOwnTables, FitsOwn, OwnTables}
 use Rattle.rip_check.specs.Metrics.{metric_at}
 use Rattle.rip_check.specs.OwnTells.{IsToldBy, TellsThere}
 use Rattle.std.specs.declared.vec.Vec.{Vec}

@@ -95,12 +95,7 @@ fn is_offered_across<T: Table>(
 }
 
 /// Whether a neighbour that has an address offers a metric.
-fn is_offered_by<T: Table>(
-    case: &Case<'_, T>,
-    router: usize,
-    address: Address,
-    metric: u32,
-) -> bool
+fn is_offered_by<T: Table>(case: &Case<'_, T>, router: usize, address: Address, metric: u32) -> bool
     requires { router < length (network_of case.now).routers }
     ensures { Decides result ((l s : ℕ)
         × HasHop (network_of case.now) router l s case.now.prefix address
@@ -189,9 +184,7 @@ fn wrong_at<T: Table, G: RouteTables>(
     if metric != equation {
         return Some(Wrong::Metric(metric_of(equation)));
     }
-    if tables.is_here(router, case.prefix)
-        && !is_direct(case.plan, router, case.prefix, metric)
-    {
+    if tables.is_here(router, case.prefix) && !is_direct(case.plan, router, case.prefix, metric) {
         return Some(Wrong::Here);
     }
     first_wrong_hop(case, tables, router, keeps, metric)

@@ -1,9 +1,8 @@
-use Rattle.std.proofs.Common.{◌≡◌, ℕ, ◌≤◌, None, Some, IfNone, length, refl, arith}
-use Rattle.rip_check.specs.Firsts.{AreFine, IsFirst}
-use Rattle.rip_check.specs.OwnSettled.{AreRightTables, IsEachListed}
+use Rattle.std.proofs.Common.{◌≡◌, None, IfNone, length, refl, arith}
+use Rattle.rip_check.specs.Firsts.{AreFine}
 use Rattle.rip_check.specs.OwnVerdicts.{IsNextWrong, IsOwnFailing, IsOwnSound}
 use Rattle.rip_check.specs.Told.{told}
-use Rattle.rip_check.proofs.OwnJudgeLemmas.{all_right, not_right, not_unlisted, right_arrive, some_place}
+use Rattle.rip_check.proofs.OwnJudgeLemmas.{all_right, not_right, right_arrive, some_place}
 use Rattle.rip_check.proofs.OwnWrongLemmas.{told_unheard}
 use Rattle.rip_check.proofs.own_audit.judge_own.Goals as goal
 
@@ -43,8 +42,7 @@ returns-in-Some-first_wrong_place-clause-settled g c =
     let found : (f.router ≡ c.in-Some-first_wrong_place.router) × (f.prefix ≡ case.prefix) × IsOwnFailing case.plan.now (g.T.Table.state case.table.now) t f =
     rw c.unwrap.ensures at c.wrong-place.ensures.some in
     let place = rw (c.new.ensures.plan, c.new.ensures.table, c.new.ensures.prefix) at found in
-    let is : IsNextWrong n state t None c.unwrap.result = record { first = rw place.0 (rw place.1 first); values = place.2 } in
-    (
+    let is : IsNextWrong n state t None c.unwrap.result = record { first = rw place.0 (rw place.1 first); values = place.2 } in (
       λ e. cc e,
       λ right. absurd (not_right n state t c.lawful.ensures (g.G.RouteTables.are_tables c.args.tables.now) c.requires.told c.unwrap.result (is) right),
     )

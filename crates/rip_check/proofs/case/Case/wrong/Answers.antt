@@ -1,5 +1,5 @@
-use Rattle.std.proofs.Common.{◌≡◌, length, refl, ap, arith}
-use Rattle.rip_check.specs.Cases.{network_of, state_of, told_in}
+use Rattle.std.proofs.Common.{length, refl, ap, arith}
+use Rattle.rip_check.specs.Cases.{network_of, state_of}
 use Rattle.rip_routes.specs.OwnTables.{route_at}
 use Rattle.rip_check.specs.OwnVerdicts.{IsWrong}
 use Rattle.rip_check.proofs.OwnWrongLemmas.{told_unheard}

@@ -1,7 +1,7 @@
-use Rattle.std.proofs.Common.{◌≡◌, ℕ, ◌<◌, ◌≤◌, Some, None, get_or, slice_get, length, refl, sym, ap, ◌∙◌, arith}
+use Rattle.std.proofs.Common.{Some, get_or, sym, ap, ◌∙◌, arith}
 use Rattle.std.proofs.lemmas.Option.{slice_get-get_or}
 use Rattle.rip_wire.specs.Prefix.{Block}
-use Rattle.rip_check.specs.ToldCells.{rows_of, shown_by, told_state}
+use Rattle.rip_check.specs.ToldCells.{rows_of, shown_by}
 use Rattle.rip_check.proofs.ToldStateLemmas.{row_items, shows_metric, told_cell}
 use Rattle.rip_check.proofs.told_table.ToldTableTable.metric.Goals as goal
 
