@@ -31,6 +31,7 @@ complete -c ripaudit -n '__ripaudit_word 1' -l version -d 'print the version'
 complete -c ripaudit -n '__ripaudit_word 1' -a '(__ripaudit_commands)'
 complete -c ripaudit -n '__ripaudit_word 2; and __fish_seen_subcommand_from help' -a '(__ripaudit_commands)'
 complete -c ripaudit -n '__fish_seen_subcommand_from audit explain' -l all -d 'tell of each place, not only of the first'
+complete -c ripaudit -n '__fish_seen_subcommand_from audit explain' -l routes -d 'judge the routes that routers have, not those of a log'
 complete -c ripaudit -n '__fish_seen_subcommand_from routes table' -l anyway -d "leave out what is refused, a stranger's or bad, and go on"
 complete -c ripaudit -n '__fish_seen_subcommand_from log' -l without-authentication -d 'print datagrams as they would be without their authentication'
 complete -c ripaudit -n '__fish_seen_subcommand_from log' -l times -d 'begin each line of a packet with its time'
