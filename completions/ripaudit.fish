@@ -11,7 +11,7 @@ end
 
 function __ripaudit_commands
     printf '%s\t%s\n' \
-        audit 'tell whether the routes that a log shows are right' \
+        audit 'tell whether routes are right, those that a log shows or those that routers have' \
         explain 'tell the verdict of audit, and what it comes from' \
         heard "tell who is in a log, and all that is refused, a stranger's or bad" \
         routes 'print the routes that a log shows' \
