@@ -1,5 +1,5 @@
 -- Who has an address of a next hop.
-use Rattle.std.proofs.Common.{◌≡◌, ◌≢◌, ◌↔◌, ℕ, ◌+◌, ◌<◌, ◌≤◌, ◌⊎◌, inl, inr, List, Option, None, Some, Contains, get_or, min, unwrap_or, length, refl, sym, ap, ◌∙◌, arith}
+use Rattle.std.proofs.Common.{◌≡◌, ◌≢◌, ◌↔◌, ℕ, ◌+◌, ◌<◌, ◌≤◌, inl, inr, List, Option, None, Some, Contains, get_or, min, unwrap_or, length, refl, sym, ap, ◌∙◌, arith}
 use Rattle.std.proofs.lemmas.Bool.{cases_lt}
 use Rattle.std.specs.List.Sorted.{IsStrictlyIncreasing}
 use Rattle.rip_plan.specs.Network.{Network}
@@ -10,7 +10,7 @@ use Rattle.rip_check.specs.Metrics.{metric_at}
 use Rattle.rip_check.specs.Tables.{Offers}
 use Rattle.rip_check.specs.OwnTells.{HasHop, HasHopAt, IsHadOn}
 use Rattle.rip_check.specs.ToldCells.{IsFirstAcross}
-use Rattle.rip_check.proofs.AcrossLemmas.{across_own, across_place}
+use Rattle.rip_check.proofs.AcrossLemmas.{across_place}
 use Rattle.rip_check.proofs.OwnedLemmas.{ascends, ascends_below, each_more, every, its_link, its_own}
 
 -- the numbers of the interfaces of a link, of which those before a place are of router r where they have the address

@@ -1,8 +1,8 @@
 -- Where the routers' own tables are right, every place of them holds.
-use Rattle.std.proofs.Common.{◌≡◌, ℕ, ◌+◌, ◌<◌, ◌≤◌, ◌⊎◌, inl, inr, true, min, Contains, List, [], ◌∷◌, length, refl, arith}
+use Rattle.std.proofs.Common.{◌≡◌, ℕ, ◌+◌, ◌<◌, ◌≤◌, ◌⊎◌, inl, inr, min, Contains, List, [], ◌∷◌, length, refl, arith}
 use Rattle.std.proofs.lemmas.Bool.{cases_eq, cases_lt}
 use Rattle.rip_plan.specs.Network.{Network}
-use Rattle.rip_plan.specs.Relations.{HasCost, IsAttached, IsKept, IsLawful, IsOn}
+use Rattle.rip_plan.specs.Relations.{HasCost, IsAttached, IsKept, IsLawful}
 use Rattle.rip_table.specs.State.{State}
 use Rattle.rip_routes.specs.OwnTables.{AreOwnTables, OwnTables, route_at}
 use Rattle.rip_routes.specs.declared.next_hop.NextHop.{NextHop}

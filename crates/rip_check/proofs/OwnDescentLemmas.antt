@@ -1,5 +1,5 @@
 -- Where every place of the routers' own tables holds, the tables are right.
-use Rattle.std.proofs.Common.{◌≡◌, ℕ, zero, suc, ◌+◌, ◌<◌, ◌≤◌, ◌⊎◌, inl, inr, true, Contains, Option, None, Some, List, [], ◌∷◌, length, refl, ap, arith}
+use Rattle.std.proofs.Common.{◌≡◌, ℕ, zero, suc, ◌+◌, ◌<◌, ◌≤◌, ◌⊎◌, inl, inr, Contains, Option, None, Some, List, [], ◌∷◌, length, ap, arith}
 use Rattle.std.proofs.lemmas.Bool.{cases_eq, cases_lt}
 use Rattle.rip_plan.specs.Network.{Network}
 use Rattle.rip_plan.specs.Relations.{HasCost, IsAttached, IsKept, IsLawful, IsNeighbour, IsOn}
@@ -56,9 +56,10 @@ module _ (n : Network) (told : State) (t : OwnTables) (plan : IsLawful n) (are :
       let o = h.1.2 in
       let e = own_offer_below n told t by r l s p (route_at t r p).metric known o small in
       let cost = plan.cost_least o.here.0 r l o.cost o.here.1 in
-      let rest = less s (known_on n plan s l o.neighbour.there) (omega (arith, e.0, cost)) in
-      (record { link = l; to = s } ∷ rest.0,
-        (o.cost, (route_at t s p).metric, o.here, offer_hop r l s p (route_at t r p).metric known o small h.0, rest.1, e.0))
+      let rest = less s (known_on n plan s l o.neighbour.there) (omega (arith, e.0, cost)) in (
+        record { link = l; to = s } ∷ rest.0,
+        (o.cost, (route_at t s p).metric, o.here, offer_hop r l s p (route_at t r p).metric known o small h.0, rest.1, e.0),
+      )
 
   -- by descent on the metric
   path_below : (bound r p : ℕ) → r < length n.routers → p < length t.prefixes → (route_at t r p).metric < bound → (route_at t r p).metric < 16 →

@@ -1,9 +1,9 @@
 -- From the first place that does not hold to the verdict.
-use Rattle.std.proofs.Common.{◌≡◌, ℕ, ◌≤◌, ◌<◌, true, Option, None, Some, IfNone, IsSome, length, refl}
+use Rattle.std.proofs.Common.{ℕ, Option, None, Some, IfNone, IsSome, length, refl}
 use Rattle.rip_plan.specs.Network.{Network}
 use Rattle.rip_plan.specs.Relations.{IsLawful}
 use Rattle.rip_table.specs.State.{State}
-use Rattle.rip_routes.specs.OwnTables.{AreOwnTables, OwnTables, route_at}
+use Rattle.rip_routes.specs.OwnTables.{AreOwnTables, OwnTables}
 use Rattle.rip_check.specs.Firsts.{AreFine}
 use Rattle.rip_check.specs.OwnSettled.{AreRightTables, IsEachListed}
 use Rattle.rip_check.specs.OwnTells.{IsToldBy}

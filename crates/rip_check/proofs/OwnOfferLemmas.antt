@@ -1,5 +1,5 @@
 -- What neighbours offer by their own tables.
-use Rattle.std.proofs.Common.{◌≡◌, ℕ, ◌+◌, ◌<◌, ◌≤◌, inl, inr, Option, None, Some, unwrap_or, min, length, refl, arith}
+use Rattle.std.proofs.Common.{◌≡◌, ℕ, ◌+◌, ◌<◌, Option, None, Some, unwrap_or, min, length, refl, arith}
 use Rattle.rip_plan.specs.Network.{Network}
 use Rattle.rip_plan.specs.Relations.{HasCost, IsNeighbour}
 use Rattle.rip_table.specs.State.{State}

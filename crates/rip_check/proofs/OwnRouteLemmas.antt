@@ -1,5 +1,5 @@
 -- The route of a place, told or not.
-use Rattle.std.proofs.Common.{◌≡◌, ℕ, ◌<◌, inl, inr, Contains, Option, None, Some, unwrap_or, slice_get, refl, arith}
+use Rattle.std.proofs.Common.{◌≡◌, ℕ, Contains, Option, None, Some, unwrap_or, slice_get, refl, arith}
 use Rattle.std.specs.Option.{option_map_or}
 use Rattle.rip_wire.specs.Prefix.{Block}
 use Rattle.rip_plan.specs.Network.{Network}

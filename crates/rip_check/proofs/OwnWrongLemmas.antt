@@ -1,5 +1,5 @@
 -- What is wrong with a route does not go with a place that holds.
-use Rattle.std.proofs.Common.{◌≡◌, ◌≢◌, ◌||◌, ℕ, ◌<◌, inl, inr, Bool, true, false, not, Contains, Option, None, Some, IfNone, IfSome, slice_get, get_or, length, refl, sym, ◌∙◌, arith}
+use Rattle.std.proofs.Common.{◌≡◌, ◌||◌, ℕ, inl, inr, Bool, true, false, not, Contains, Option, None, Some, IfNone, IfSome, refl, arith}
 use Rattle.std.proofs.lemmas.Option.{get_or_from_slice_get, slice_get_within}
 use Rattle.rip_plan.specs.Network.{Network}
 use Rattle.rip_plan.specs.Relations.{IsDirect}
@@ -10,7 +10,6 @@ use Rattle.rip_check.specs.OwnSettled.{IsHopGiven, OwnHolds}
 use Rattle.rip_check.specs.OwnVerdicts.{IsFirstWrongHop, IsWrong}
 use Rattle.rip_check.specs.Settled.{IsLeastChoice}
 use mathlib.Core.Path.{fun_ext}
-use Rattle.rip_wire.specs.Prefix.{Block}
 use Rattle.rip_check.specs.Told.{poisons, told, told_of}
 use Rattle.rip_check.specs.declared.own_verdict.Wrong.{Wrong}
 

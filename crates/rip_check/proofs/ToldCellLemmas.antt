@@ -1,11 +1,11 @@
 -- Marks of links, and cells of what is told.
-use Rattle.std.proofs.Common.{◌≡◌, ◌≢◌, ℕ, zero, suc, ◌+◌, ◌<◌, ◌≤◌, ◌⊎◌, inl, inr, replicate, Bool, Decides, true, false, if◌then◌else◌, List, Contains, Some, slice_get, slice_set, get_or, length, refl, sym, ap, ◌∙◌, arith}
+use Rattle.std.proofs.Common.{◌≡◌, ℕ, zero, suc, ◌+◌, ◌<◌, ◌≤◌, ◌⊎◌, inl, inr, replicate, Bool, Decides, true, false, if◌then◌else◌, List, Contains, Some, slice_get, slice_set, get_or, length, refl, sym, ap, ◌∙◌, arith}
 use Rattle.std.proofs.lemmas.Bool.{cases_eq, cases_lt}
 use Rattle.std.proofs.lemmas.Option.{get_or_from_slice_get}
 use Rattle.std.proofs.lemmas.List.{get_or-set_other, length-set}
 use Rattle.std.proofs.lemmas.Grind.{get_or-set_at}
 use Rattle.rip_plan.specs.Network.{Network}
-use Rattle.rip_plan.specs.Relations.{IsInterface, IsOn}
+use Rattle.rip_plan.specs.Relations.{IsOn}
 use Rattle.rip_routes.specs.OwnTables.{FitsOwn, OwnTables, route_at}
 use Rattle.rip_routes.specs.declared.next_hop.NextHop.{NextHop}
 use Rattle.rip_routes.specs.declared.next_hop.NextHop.TheVariants.{Over, Via}
@@ -22,8 +22,7 @@ marked Is Then marks k at was here more less l lt =
       | inl e ↦ (λ t. rw e here, λ h. get_or-set_at marks k l true false e at)
       | inr ne ↦
           let lt' : l < length marks = omega (arith, lt, length-set marks k true) in
-          let kept = get_or-set_other marks k l true false ne in
-          (
+          let kept = get_or-set_other marks k l true false ne in (
             λ t. more l ((was l lt').0 (sym kept ∙ t)),
             λ h. elim (less l h) [
               | inl e ↦ absurd (ne e)

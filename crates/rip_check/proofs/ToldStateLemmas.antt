@@ -1,17 +1,19 @@
 -- The table of what routers tell, by its cells.
-use Rattle.std.proofs.Common.{◌≡◌, ◌==◌, ℕ, zero, suc, ◌<◌, ◌≤◌, ◌⊎◌, inl, inr, Bool, true, false, List, [], ◌∷◌, ◌++◌, Option, None, Some, if◌then◌else◌, option_and_then, slice_get, get_or, length, refl, sym, ap, ◌∙◌, arith}
-use Rattle.std.proofs.lemmas.Option.{get_or_from_slice_get, slice_get-get_or, slice_get_within}
+use Rattle.std.proofs.Common.{◌≡◌, ◌≢◌, ℕ, zero, suc, ◌<◌, ◌≤◌, ◌⊎◌, inl, inr, true, false, List, [], ◌∷◌, ◌++◌, Option, None, Some, option_and_then, slice_get, get_or, length, refl, sym, ap, ◌∙◌, arith}
+use Rattle.std.proofs.lemmas.Option.{slice_get-get_or, slice_get_within}
 use Rattle.rip_wire.specs.Prefix.{Block}
 use Rattle.rip_plan.specs.Network.{Network, number_of_prefix}
 use Rattle.rip_plan.specs.Relations.{IsInterface, IsLawful}
 use Rattle.rip_plan.specs.declared.parts.Interface.{Interface}
-use Rattle.rip_table.specs.State.{AreDistinct, Fits, IsShown, IsState, is_among}
+use Rattle.rip_table.specs.State.{AreDistinct, Fits, IsShown, IsState}
 use Rattle.rip_table.proofs.NumberLemmas.{number-at, number-none, number-some}
 use Rattle.rip_table.proofs.PrefixListLemmas.{is_among-item}
-use Rattle.rip_routes.specs.OwnTables.{AreOwnTables, FitsOwn, OwnTables, route_at}
+use Rattle.rip_routes.specs.OwnTables.{AreOwnTables, FitsOwn, OwnTables}
 use Rattle.rip_check.specs.Metrics.{metric_at}
 use Rattle.rip_check.specs.OwnTells.{IsToldBy, TellsThere}
-use Rattle.rip_check.specs.ToldCells.{AreToldRows, IsCell, IsToldRow, cell_at, shown_by, told_state}
+use Rattle.std.specs.declared.vec.Vec.{Vec}
+use Rattle.std.specs.declared.alloc.Global.{Global}
+use Rattle.rip_check.specs.ToldCells.{AreToldRows, IsCell, IsToldRow, rows_of, cell_at, shown_by, told_state}
 use Rattle.rip_check.proofs.OwnRouteLemmas.{route_is}
 
 -- the number of a prefix of the list
@@ -117,3 +119,21 @@ rows_more n t rows row told new k other at =
       | inl there ↦ told k other there
       | inr last ↦ rw last.0 (rw last.1 at new)
     ]
+
+-- the items of a row of a list of rows
+pub row_items : (rows : List (Vec ℕ Global)) (k : ℕ) (row : Vec ℕ Global) → slice_get rows k ≡ Some row → slice_get (rows_of rows) k ≡ Some row.items
+row_items [] k row at = absurd (cc at)
+row_items (x ∷ rows) zero row at = ap (λ (v : Vec ℕ Global). Some v.items) (same_row x row at)
+  where
+    same_row : (x row : Vec ℕ Global) → Some x ≡ Some row → x ≡ row
+    same_row x row e = cc e
+row_items (x ∷ rows) (suc k) row at = row_items rows k row at
+
+-- what a cell shows of a prefix
+pub told_cell : (count : ℕ) (prefixes : List Block) (rows : List (List ℕ)) → AreDistinct prefixes → (k i x : ℕ) (p : Block) (row : List ℕ) → slice_get prefixes k ≡ Some p →
+    slice_get rows k ≡ Some row → slice_get row i ≡ Some x → (told_state count prefixes rows).shows i p ≡ shown_by x
+told_cell count prefixes rows differ k i x p row at row_at x_at = rw (listed_number prefixes p k differ at) (rw row_at (rw x_at refl))
+
+pub shows_metric : (v : ℕ) → v ≢ 0 → shown_by v ≡ Some v
+shows_metric zero other = absurd (other refl)
+shows_metric (suc v) other = refl

@@ -6,7 +6,7 @@ use Rattle.rip_table.specs.State.{State}
 use Rattle.rip_routes.specs.OwnTables.{OwnRoute, OwnTables, route_at}
 use Rattle.rip_routes.specs.declared.next_hop.NextHop.{NextHop}
 use Rattle.rip_routes.specs.declared.next_hop.NextHop.TheVariants.{Over as IsOver, Via as IsVia}
-use Rattle.rip_check.specs.Firsts.{AreFine, IsBefore, IsFirst}
+use Rattle.rip_check.specs.Firsts.{IsBefore, IsFirst}
 use Rattle.rip_check.specs.OwnSettled.{AreRightTables, IsEachListed, IsHopGiven, OwnHolds}
 use Rattle.rip_check.specs.OwnTells.{HasHop, HasHopAt}
 use Rattle.rip_check.specs.Settled.{IsLeastChoice}

@@ -1,13 +1,13 @@
 -- The table of what routers tell, by their own tables: a cell for each prefix and interface.
 use Rattle.std.specs.declared.vec.Vec.{Vec}
 use Rattle.std.specs.declared.alloc.Global.{Global}
-use Rattle.std.specs.Prelude.{◌≡◌, ◌≢◌, ◌==◌, ℕ, zero, suc, ◌<◌, ◌≤◌, ◌⊎◌, Bool, true, false, Decides, Option, None, Some, List, if◌then◌else◌, option_and_then, length, map, slice_get, slice_index, slice_index_or}
+use Rattle.std.specs.Prelude.{◌≡◌, ◌≢◌, ℕ, zero, suc, ◌<◌, ◌⊎◌, Bool, true, false, Decides, Option, None, Some, List, option_and_then, length, map, slice_get, slice_index, slice_index_or}
 use Rattle.rip_wire.specs.Prefix.{Block}
 use Rattle.rip_plan.specs.Network.{Network, number_of_prefix}
 use Rattle.rip_plan.specs.Relations.{IsAttached, IsInterface}
 use Rattle.rip_table.specs.State.{State}
 use Rattle.rip_routes.specs.OwnTables.{OwnTables, route_at}
-use Rattle.rip_check.specs.OwnTells.{HasHopAt, IsMute, SendsOver}
+use Rattle.rip_check.specs.OwnTells.{HasHopAt, IsMute}
 
 -- what a cell shows: nothing for 0, else its metric
 abbrev pub shown_by : ℕ → Option ℕ

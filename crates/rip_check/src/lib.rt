@@ -11,7 +11,6 @@ mod least;
 mod links;
 mod lookup;
 mod offers;
-
 mod own_audit;
 mod own_verdict;
 mod places;

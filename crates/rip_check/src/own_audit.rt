@@ -4,7 +4,7 @@ ghost use Rattle.std.specs.Prelude.{◌≡◌, ◌≢◌, ◌↔◌, ℕ, ◌+�
 ghost use Rattle.rip_plan.specs.Relations.{HasCost, IsDirect, IsKept};
 ghost use Rattle.rip_table.specs.State.{Fits};
 ghost use Rattle.rip_routes.specs.OwnTables.{FitsOwn, route_at};
-ghost use Rattle.rip_check.specs.Cases.{At, network_of, told_in};
+ghost use Rattle.rip_check.specs.Cases.{At, network_of, state_of, told_in};
 ghost use Rattle.rip_check.specs.Firsts.{IsFirstAt, IsFirstOf};
 ghost use Rattle.rip_check.specs.OwnSettled.{AreRightTables, EachOwnHolds, IsHopGiven, OwnHolds};
 ghost use Rattle.rip_check.specs.OwnTells.{HasHop, IsToldBy};
@@ -95,12 +95,7 @@ fn is_offered_across<T: Table>(
 }
 
 /// Whether a neighbour that has an address offers a metric.
-fn is_offered_by<T: Table>(
-    case: &Case<'_, T>,
-    router: usize,
-    address: Address,
-    metric: u32,
-) -> bool
+fn is_offered_by<T: Table>(case: &Case<'_, T>, router: usize, address: Address, metric: u32) -> bool
     requires { router < length (network_of case.now).routers }
     ensures { Decides result ((l s : ℕ)
         × HasHop (network_of case.now) router l s case.now.prefix address
@@ -189,9 +184,7 @@ fn wrong_at<T: Table, G: RouteTables>(
     if metric != equation {
         return Some(Wrong::Metric(metric_of(equation)));
     }
-    if tables.is_here(router, case.prefix)
-        && !is_direct(case.plan, router, case.prefix, metric)
-    {
+    if tables.is_here(router, case.prefix) && !is_direct(case.plan, router, case.prefix, metric) {
         return Some(Wrong::Here);
     }
     first_wrong_hop(case, tables, router, keeps, metric)
@@ -282,13 +275,13 @@ impl<T: Table> Case<'_, T> {
     /// The place of a router in the routers' own tables, and what is wrong there, if it does not
     /// hold. The table of the case is that of what the routers tell.
     pub fn wrong<G: RouteTables>(&self, tables: &G, router: usize) -> Option<OwnPlace>
+        requires told { IsToldBy (network_of self.now) (G.tables tables.now) (state_of self.now) }
         requires router { router < length (network_of self.now).routers }
-        requires prefix { self.now.prefix < length (G.tables tables.now).prefixes }
         ensures some { IfSome result (λ place. (place.router ≡ router)
             × (place.prefix ≡ self.now.prefix)
-            × IsOwnFailing (network_of self.now) (told_in self.now) (G.tables tables.now) place) }
+            × IsOwnFailing (network_of self.now) (state_of self.now) (G.tables tables.now) place) }
         ensures none { IfNone result
-            (IsOwnSound (network_of self.now) (told_in self.now) (G.tables tables.now) router
+            (IsOwnSound (network_of self.now) (state_of self.now) (G.tables tables.now) router
             self.now.prefix) }
     {
         match wrong_at(self, tables, router) {

@@ -32,7 +32,12 @@ pub(crate) fn is_direct(plan: &Plan, router: usize, prefix: usize, metric: u32) 
 
 /// Whether a neighbour on the link offers this metric, the least choice of a router that does not
 /// keep the prefix.
-pub(crate) fn is_offered<T: Table>(case: &Case<'_, T>, router: usize, metric: u32, link: usize) -> bool
+pub(crate) fn is_offered<T: Table>(
+    case: &Case<'_, T>,
+    router: usize,
+    metric: u32,
+    link: usize,
+) -> bool
     requires router { router < length (network_of case.now).routers }
     requires takes { IsKept (network_of case.now) router case.now.prefix → ⊥ }
     requires small { metric < 16 }

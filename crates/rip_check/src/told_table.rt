@@ -272,9 +272,11 @@ impl<G: RouteTables> Table for ToldTable<'_, G> {
     }
 
     fn metric(&self, interface: usize, k: usize) -> Option<Metric> {
-        match self.rows[k][interface] {
-            0 => None,
-            metric => Some(metric_of(u32::from(metric))),
+        let shown = self.rows[k][interface];
+        if shown == 0 {
+            None
+        } else {
+            Some(metric_of(u32::from(shown)))
         }
     }
 

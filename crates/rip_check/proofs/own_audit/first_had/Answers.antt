@@ -1,8 +1,7 @@
-use Rattle.std.proofs.Common.{◌≡◌, ℕ, ◌<◌, inl, inr, get_or, refl, sym, ◌∙◌}
-use Rattle.rip_plan.specs.Network.{Network}
+use Rattle.std.proofs.Common.{◌≡◌, ℕ, inl, inr, get_or, ◌∙◌}
 use Rattle.rip_plan.specs.Relations.{IsInterface}
 use Rattle.rip_check.specs.Firsts.{IsBefore}
-use Rattle.rip_check.specs.OwnTells.{HasHop, HasHopAt}
+use Rattle.rip_check.specs.OwnTells.{HasHopAt}
 use Rattle.rip_check.specs.OwnVerdicts.{IsHadAt}
 use Rattle.rip_check.specs.ToldCells.{IsFirstAcross}
 use Rattle.rip_check.proofs.HopLemmas.{hop_router}
@@ -39,17 +38,17 @@ returns-in-Some-clause-some c =
     let x = c.interface-neighbour.result in
     let who : first.router ≡ x.router = hop_router n c.in-Some.across x.router first.router own.link x.link p a x.cost c.interface-neighbour.ensures.is first.has in
     let sooner : (j q m u : ℕ) → IsHadAt n r p a j q m u → IsBefore j q i c.in-Some.across → ⊥ = λ j q m u had before.
-        elim before [
-          | inl less ↦
-              let own_before = all_before n r numbers exact c.of_router-numbers.ensures.ascending (λ i l. (j s : ℕ) → HasHopAt n j s l p a → s ≡ r) k c.loop-i-test.true c.loop-i.invariant
-              j m had.here.0 less had.here.1 in
-              had.other (own_before q u had.there)
-          | inr same_own ↦
-              let here : IsInterface n i r m had.here.0 = rw same_own.0 at had.here.1 in
-              let link : m ≡ own.link = (its_link n i r m had.here.0 r own.link own.cost here its).1 in
-              let there : HasHopAt n q u own.link p a = rw link at had.there in
-              had.other (first.before q u same_own.1 there)
-        ] in
+    elim before [
+      | inl less ↦
+          let own_before = all_before n r numbers exact c.of_router-numbers.ensures.ascending (λ i l. (j s : ℕ) → HasHopAt n j s l p a → s ≡ r) k c.loop-i-test.true c.loop-i.invariant
+          j m had.here.0 less had.here.1 in
+          had.other (own_before q u had.there)
+      | inr same_own ↦
+          let here : IsInterface n i r m had.here.0 = rw same_own.0 at had.here.1 in
+          let link : m ≡ own.link = (its_link n i r m had.here.0 r own.link own.cost here its).1 in
+          let there : HasHopAt n q u own.link p a = rw link at had.there in
+          had.other (first.before q u same_own.1 there)
+    ] in
     let there : HasHopAt n c.in-Some.across x.router own.link p a = rw who at first.has in
     record {
       own = i;

@@ -1,4 +1,4 @@
-use Rattle.std.proofs.Common.{◌≡◌, ◌∙◌, arith}
+use Rattle.std.proofs.Common.{◌∙◌, arith}
 use Rattle.rip_check.proofs.own_audit.first_wrong_place.Goals as goal
 
 pub with_prefix-found-requires-clause-found : goal.with_prefix-found-requires-clause-found
@@ -8,6 +8,6 @@ with_prefix-found-requires-clause-found g c =
 pub loop-prefix-preserved : goal.loop-prefix-preserved
 loop-prefix-preserved g c = record {
   found =
-  rw (c.with_links.ensures.plan ∙ c.new-case.ensures.plan, c.with_links.ensures.table ∙ c.new-case.ensures.table, c.with_links.ensures.prefix ∙ c.new-case.ensures.prefix) at c.with_prefix-found.ensures;
+      rw (c.with_links.ensures.plan ∙ c.new-case.ensures.plan, c.with_links.ensures.table ∙ c.new-case.ensures.table, c.with_links.ensures.prefix ∙ c.new-case.ensures.prefix) at c.with_prefix-found.ensures;
   size = omega (arith, c.fill.auto.links, c.loop-prefix.invariant.size);
 }

@@ -1,4 +1,4 @@
-use Rattle.std.proofs.Common.{ℕ, below_more}
+use Rattle.std.proofs.Common.{below_more}
 use Rattle.rip_routes.specs.OwnTables.{route_at}
 use Rattle.rip_check.specs.Cases.{told_in}
 use Rattle.rip_check.proofs.OwnWrongLemmas.{wrong_fails}

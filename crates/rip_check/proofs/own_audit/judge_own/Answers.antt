@@ -1,16 +1,19 @@
-use Rattle.std.proofs.Common.{◌≡◌, ℕ, ◌≤◌, None, Some, length, refl, arith}
-use Rattle.rip_check.specs.Firsts.{AreFine, IsFirst}
-use Rattle.rip_check.specs.OwnSettled.{AreRightTables, IsEachListed}
-use Rattle.rip_check.specs.OwnVerdicts.{IsNextWrong, IsOwnSound}
+use Rattle.std.proofs.Common.{◌≡◌, None, IfNone, length, refl, arith}
+use Rattle.rip_check.specs.Firsts.{AreFine}
+use Rattle.rip_check.specs.OwnVerdicts.{IsNextWrong, IsOwnFailing, IsOwnSound}
 use Rattle.rip_check.specs.Told.{told}
-use Rattle.rip_check.proofs.OwnJudgeLemmas.{all_right, not_right, not_unlisted, right_arrive, some_place}
+use Rattle.rip_check.proofs.OwnJudgeLemmas.{all_right, not_right, right_arrive, some_place}
 use Rattle.rip_check.proofs.OwnWrongLemmas.{told_unheard}
 use Rattle.rip_check.proofs.own_audit.judge_own.Goals as goal
 
 pub unwrap-requires : goal.unwrap-requires
 unwrap-requires g c =
-    let first = rw c.in-Some-first_wrong_place.is at c.first_wrong_place.ensures in
-    some_place _ c.wrong-place.result (rw (c.new.ensures.plan, c.new.ensures.table, c.new.ensures.prefix) at c.wrong-place.ensures.none) first.fails
+    let same = told_unheard c.args.plan.now (g.T.Table.state c.args.table.now) c.requires.told.unheard in
+    let first = rw same at (rw c.in-Some-first_wrong_place.is at c.first_wrong_place.ensures) in
+    let case = c.new.result in
+    let none : IfNone c.wrong-place.result (IsOwnSound case.plan.now (g.T.Table.state case.table.now) (g.G.RouteTables.tables c.args.tables.now) c.in-Some-first_wrong_place.router case.prefix) =
+    c.wrong-place.ensures.none in
+    some_place _ c.wrong-place.result (rw (c.new.ensures.plan, c.new.ensures.table, c.new.ensures.prefix) at none) first.fails
 
 pub returns-in-Some-first_wrong_place-clause-verdict : goal.returns-in-Some-first_wrong_place-clause-verdict
 returns-in-Some-first_wrong_place-clause-verdict g c =
@@ -18,10 +21,14 @@ returns-in-Some-first_wrong_place-clause-verdict g c =
     let state = g.T.Table.state c.args.table.now in
     let t = g.G.RouteTables.tables c.args.tables.now in
     let same = told_unheard n state c.requires.told.unheard in
-    let first = rw c.in-Some-first_wrong_place.is at c.first_wrong_place.ensures in
-    let place = rw (c.new.ensures.plan, c.new.ensures.table, c.new.ensures.prefix) at (rw c.unwrap.ensures at c.wrong-place.ensures.some) in
-    let is : IsNextWrong n (told n state) t None c.unwrap.result = record { first = rw place.0 (rw place.1 first); values = place.2 } in
-    (λ r at. c.in_default.ensures.none r (omega arith) at, rw same at is)
+    let first = rw same at (rw c.in-Some-first_wrong_place.is at c.first_wrong_place.ensures) in
+    let case = c.new.result in
+    let f = c.unwrap.result in
+    let found : (f.router ≡ c.in-Some-first_wrong_place.router) × (f.prefix ≡ case.prefix) × IsOwnFailing case.plan.now (g.T.Table.state case.table.now) t f =
+    rw c.unwrap.ensures at c.wrong-place.ensures.some in
+    let place = rw (c.new.ensures.plan, c.new.ensures.table, c.new.ensures.prefix) at found in
+    let is : IsNextWrong n state t None c.unwrap.result = record { first = rw place.0 (rw place.1 first); values = place.2 } in
+    (λ r at. c.in_default.ensures.none r (omega arith) at, is)
 
 pub returns-in-Some-first_wrong_place-clause-settled : goal.returns-in-Some-first_wrong_place-clause-settled
 returns-in-Some-first_wrong_place-clause-settled g c =
@@ -29,12 +36,15 @@ returns-in-Some-first_wrong_place-clause-settled g c =
     let state = g.T.Table.state c.args.table.now in
     let t = g.G.RouteTables.tables c.args.tables.now in
     let same = told_unheard n state c.requires.told.unheard in
-    let first = rw c.in-Some-first_wrong_place.is at c.first_wrong_place.ensures in
-    let place = rw (c.new.ensures.plan, c.new.ensures.table, c.new.ensures.prefix) at (rw c.unwrap.ensures at c.wrong-place.ensures.some) in
-    let is : IsNextWrong n (told n state) t None c.unwrap.result = record { first = rw place.0 (rw place.1 first); values = place.2 } in
-    (
+    let first = rw same at (rw c.in-Some-first_wrong_place.is at c.first_wrong_place.ensures) in
+    let case = c.new.result in
+    let f = c.unwrap.result in
+    let found : (f.router ≡ c.in-Some-first_wrong_place.router) × (f.prefix ≡ case.prefix) × IsOwnFailing case.plan.now (g.T.Table.state case.table.now) t f =
+    rw c.unwrap.ensures at c.wrong-place.ensures.some in
+    let place = rw (c.new.ensures.plan, c.new.ensures.table, c.new.ensures.prefix) at found in
+    let is : IsNextWrong n state t None c.unwrap.result = record { first = rw place.0 (rw place.1 first); values = place.2 } in (
       λ e. cc e,
-      λ right. absurd (not_right n state t c.lawful.ensures (g.G.RouteTables.are_tables c.args.tables.now) c.requires.told c.unwrap.result (rw same at is) right),
+      λ right. absurd (not_right n state t c.lawful.ensures (g.G.RouteTables.are_tables c.args.tables.now) c.requires.told c.unwrap.result (is) right),
     )
 
 pub returns-in-None-clause-verdict : goal.returns-in-None-clause-verdict

@@ -1,4 +1,4 @@
-use Rattle.std.proofs.Common.{◌≡◌, ℕ, ◌≤◌, ◌<◌, inl, inr, true, false, sym, ◌∙◌, arith}
+use Rattle.std.proofs.Common.{◌≡◌, true, false, sym, ◌∙◌, arith}
 use Rattle.rip_check.proofs.own_audit.next_unlisted.Goals as goal
 
 pub returns-then-not-is_listed-clause-some : goal.returns-then-not-is_listed-clause-some

@@ -1,4 +1,4 @@
-use Rattle.std.proofs.Common.{length, None, Some, ◌∙◌, refl}
+use Rattle.std.proofs.Common.{◌∙◌}
 use Rattle.rip_check.specs.Cases.{told_in}
 use Rattle.rip_check.specs.OwnVerdicts.{IsOwnSound}
 use Rattle.rip_check.proofs.FirstPlaceLemmas.{IsRouterOf, next_none, next_some}

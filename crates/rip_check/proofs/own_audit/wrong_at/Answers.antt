@@ -1,9 +1,9 @@
-use Rattle.std.proofs.Common.{◌≡◌, ◌≢◌, ◌≤◌, ℕ, inl, inr, true, false, refl, sym, ◌∙◌, arith}
+use Rattle.std.proofs.Common.{◌≡◌, ◌≢◌, inl, inr, true, false, refl, sym, ◌∙◌, arith}
 use Rattle.std.proofs.lemmas.Bool.Decides.{not_from_Decides}
 use Rattle.rip_plan.specs.Relations.{IsDirect}
 use Rattle.rip_routes.specs.OwnTables.{route_at}
 use Rattle.rip_check.specs.Cases.{told_in}
-use Rattle.rip_check.specs.Settled.{IsChoice, IsLeastChoice}
+use Rattle.rip_check.specs.Settled.{IsLeastChoice}
 use Rattle.rip_check.proofs.OnePlaceLemmas.{choice_low}
 use Rattle.rip_check.proofs.OwnWrongLemmas.{holds_all, wrong_next}
 use Rattle.rip_check.proofs.own_audit.wrong_at.Goals as goal

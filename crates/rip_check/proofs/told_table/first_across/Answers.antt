@@ -1,4 +1,4 @@
-use Rattle.std.proofs.Common.{◌≡◌, get_or, ◌∙◌, sym}
+use Rattle.std.proofs.Common.{◌≡◌, get_or, ◌∙◌}
 use Rattle.std.proofs.lemmas.Bool.Decides.{not_from_Decides}
 use Rattle.rip_check.proofs.AcrossLemmas.{across_number, across_own}
 use Rattle.rip_check.proofs.HopLemmas.{all_own, first_found, hop_router, own_more}

@@ -1,4 +1,4 @@
-use Rattle.std.proofs.Common.{◌≡◌, ℕ, Bool, true, false, inl, inr, Some, refl, sym, ap, ◌∙◌}
+use Rattle.std.proofs.Common.{◌≡◌, ℕ, Bool, true, false, inl, inr, Some, refl, sym, ◌∙◌}
 use Rattle.std.proofs.lemmas.Bool.{eqb-true, eq-eqb}
 use Rattle.rip_plan.specs.Network.{Network}
 use Rattle.rip_plan.specs.Relations.{HasAddress, IsGateway, IsInterface}
@@ -20,8 +20,7 @@ returns-in-Some c = λ s l c' its.
     let own = c.interface.result in
     let a = c.args.address in
     let p = c.args.prefix in
-    let same : own.router ≡ s = (its_link n c.args.across own.router own.link own.cost s l c' c.interface.ensures.is its).0 in
-    (
+    let same : own.router ≡ s = (its_link n c.args.across own.router own.link own.cost s l c' c.interface.ensures.is its).0 in (
       λ t.
           let e : c.in-Some.gateway ≡ a = eqb-true _ _ (sym c.eq.ensures ∙ t) in
           let is : IsGateway n own.router p c.in-Some.gateway = (c.in-Some.ensures c.in-Some.gateway).0 refl in
@@ -38,8 +37,7 @@ pub returns-in-None : goal.returns-in-None
 returns-in-None c = λ s l c' its.
     let n = c.args.plan.now in
     let own = c.interface.result in
-    let same : own.router ≡ s = (its_link n c.args.across own.router own.link own.cost s l c' c.interface.ensures.is its).0 in
-    (
+    let same : own.router ≡ s = (its_link n c.args.across own.router own.link own.cost s l c' c.interface.ensures.is its).0 in (
       λ t. cc t,
       λ h.
           let gateway = by_gateway n c.args.across s l c.args.prefix c.args.address c' c.has_address.result c.if-has_address.false its (c.has_address.ensures s l c' its).1 h in

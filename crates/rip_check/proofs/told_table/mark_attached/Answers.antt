@@ -1,4 +1,4 @@
-use Rattle.std.proofs.Common.{◌≡◌, ℕ, ◌⊎◌, inl, inr, Bool, true, false, None, Option, Some, refl, sym, ap, ◌∙◌, arith}
+use Rattle.std.proofs.Common.{◌≡◌, ◌⊎◌, inl, inr, true, false, Some, refl, sym, ◌∙◌, arith}
 use Rattle.rip_check.specs.OwnTells.{SendsOver}
 use Rattle.rip_check.specs.ToldCells.{IsHereOn}
 use Rattle.rip_check.proofs.ToldCellLemmas.{marked, same_marks}

@@ -1,7 +1,6 @@
-use Rattle.std.proofs.Common.{◌≡◌, ℕ, ◌+◌, ◌<◌, ◌⊎◌, inl, inr, Bool, true, false, List, Contains, None, Option, Some, slice_get, get_or, refl, sym, ap, ◌∙◌, length, arith}
+use Rattle.std.proofs.Common.{◌≡◌, ℕ, ◌+◌, ◌<◌, inl, inr, Contains, None, Some, slice_get, sym, ap, ◌∙◌, length, arith}
 use Rattle.std.proofs.lemmas.Option.{slice_get-get_or}
 use Rattle.rip_routes.specs.OwnTables.{route_at}
-use Rattle.rip_routes.specs.declared.next_hop.NextHop.{NextHop}
 use Rattle.rip_check.specs.OwnTells.{IsOver, SendsOver}
 use Rattle.rip_check.proofs.ToldCellLemmas.{SendsOverBefore, marked, over_on, same_marks, sends_by, sends_here, sends_later}
 use Rattle.rip_check.proofs.told_table.mark_hops.Goals as goal
@@ -47,18 +46,18 @@ loop-hop-preserved g c =
           let on = over_on n t r p k h c.requires.fits listed over in
           let at : k < length c.loop-hop.marks = omega (arith, c.requires.size, c.loop-hop.auto.marks, c.lawful.ensures.link_known on.1.0 r k on.0 on.1.1) in
           rw w.marks-is (marked Was Then c.loop-hop.marks k at c.loop-hop.invariant (sends_here n r p hops k j h c.loop-hop-test.true is over) (λ l was. sends_later n r p hops l j was)
-              (λ l then. elim (sends_by n r p hops l j h is then) [
-                | inl here ↦
-                    inl (sym (same_link k l (sym w.in-Some.is ∙ (c.link_of.ensures l).1 here)))
-                | inr was ↦ inr was
-              ]))
+          (λ l then. elim (sends_by n r p hops l j h is then) [
+            | inl here ↦
+                inl (sym (same_link k l (sym w.in-Some.is ∙ (c.link_of.ensures l).1 here)))
+            | inr was ↦ inr was
+          ]))
       | in-None w ↦
           rw w.marks-is (same_marks Was Then c.loop-hop.marks c.loop-hop.invariant (λ l was. sends_later n r p hops l j was)
-              (λ l then. elim (sends_by n r p hops l j h is then) [
-                | inl here ↦
-                    absurd (no_link l (sym w.in-None.is ∙ (c.link_of.ensures l).1 here))
-                | inr was ↦ was
-              ]))
+          (λ l then. elim (sends_by n r p hops l j h is then) [
+            | inl here ↦
+                absurd (no_link l (sym w.in-None.is ∙ (c.link_of.ensures l).1 here))
+            | inr was ↦ was
+          ]))
     ]
 
 pub returns : goal.returns
@@ -70,8 +69,8 @@ returns g c =
     let hops = c.next_hops-hops.result.now in
     same_marks (λ l. SendsOverBefore n r p hops l c.loop-hop.hop-index) (λ l. SendsOver n t r l p) c.loop-hop.marks c.loop-hop.invariant
     (λ l over.
-        let listed : Contains hops over.0 = (over.1.0, over.1.2, over.1.3) in
-        (over.0, rw c.next_hops-hops.ensures at listed, over.2))
+    let listed : Contains hops over.0 = (over.1.0, over.1.2, over.1.3) in
+    (over.0, rw c.next_hops-hops.ensures at listed, over.2))
     (λ l over.
-        let listed : Contains hops over.0 = rw c.next_hops-hops.ensures over.1 in
-        (over.0, (listed.0, omega (arith, listed.1, c.loop-hop-test.false), listed.1, listed.2), over.2))
+    let listed : Contains hops over.0 = rw c.next_hops-hops.ensures over.1 in
+    (over.0, (listed.0, omega (arith, listed.1, c.loop-hop-test.false), listed.1, listed.2), over.2))

@@ -1,4 +1,4 @@
-use Rattle.std.proofs.Common.{◌≡◌, ℕ, Bool, true, false, Option, None, Some, is_some, get_or, refl, sym, ◌∙◌}
+use Rattle.std.proofs.Common.{◌≡◌, ℕ, true, false, Option, None, Some, is_some, refl, sym, ◌∙◌}
 use Rattle.std.proofs.lemmas.Bool.Decides.{not_from_Decides}
 use Rattle.rip_check.specs.OwnTells.{IsHadOn}
 use Rattle.rip_check.proofs.HopLemmas.{IsOneSoFar, not_one, one_of_all, one_with, one_without}
@@ -31,8 +31,7 @@ returns-then-is_some c = λ l.
     let same = its_router n r numbers exact k own c.loop-i-test.true c.interface-own.ensures.is in
     let had : IsHadOn n r p a own.link = rw same at (c.is_had_over.ensures.0 c.if-is_had_over.true) in
     let found = some_there c.loop-i.found (sym c.is_some.ensures ∙ c.if-is_some.true) in
-    let was : IsOneSoFar n r p a numbers k (Some found.0) = rw found.1 at c.loop-i.invariant in
-    (
+    let was : IsOneSoFar n r p a numbers k (Some found.0) = rw found.1 at c.loop-i.invariant in (
       λ e. cc e,
       λ h. absurd (not_one n r p a numbers exact c.lawful.ensures c.of_router-numbers.ensures.ascending k found.0 l own c.loop-i-test.true c.interface-own.ensures.is was had h.1),
     )
@@ -57,7 +56,7 @@ loop-i-preserved c =
           rw w.found-is (one_with n r p a numbers exact k own c.loop-i-test.true is was had)
       | else-is_had_over w ↦
           rw w.found-is (one_without n r p a numbers exact k own c.loop-i.found is c.loop-i.invariant
-              (λ had. not_from_Decides c.is_had_over.result c.is_had_over.ensures w.if-is_had_over.false (rw same had)))
+          (λ had. not_from_Decides c.is_had_over.result c.is_had_over.ensures w.if-is_had_over.false (rw same had)))
     ]
 
 pub returns : goal.returns

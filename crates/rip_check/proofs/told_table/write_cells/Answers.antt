@@ -1,9 +1,9 @@
-use Rattle.std.proofs.Common.{◌≡◌, ◌≢◌, ℕ, ◌+◌, ◌<◌, inl, inr, false, get_or, slice_set, if◌then◌else◌, length, refl, sym, ◌∙◌, arith}
+use Rattle.std.proofs.Common.{◌≡◌, ◌≢◌, ◌<◌, inl, inr, false, get_or, slice_set, if◌then◌else◌, length, refl, ◌∙◌, arith}
 use Rattle.std.proofs.lemmas.Bool.{cases_lt}
 use Rattle.std.proofs.lemmas.List.{get_or-set_other}
 use Rattle.std.proofs.lemmas.Grind.{get_or-set_at}
 use Rattle.rip_plan.specs.Relations.{IsInterface}
-use Rattle.rip_check.proofs.OwnedLemmas.{ascends_below, at_place, every, its_link, its_number, its_own}
+use Rattle.rip_check.proofs.OwnedLemmas.{ascends_below, every, its_link, its_number, its_own}
 use Rattle.rip_check.proofs.told_table.write_cells.Goals as goal
 
 pub interface-own-requires : goal.interface-own-requires
@@ -45,8 +45,8 @@ loop-i-preserved c =
       ];
       others = λ j s l d is other.
           let ne : j ≢ i = λ e.
-              let is' : IsInterface n i s l d = rw e at is in
-              other (its_link n i s l d r own.link own.cost is' its).0 in
+          let is' : IsInterface n i s l d = rw e at is in
+          other (its_link n i s l d r own.link own.cost is' its).0 in
           get_or-set_other c.loop-i.row i j v 0 ne ∙ c.loop-i.invariant.others j s l d is other;
     }
 

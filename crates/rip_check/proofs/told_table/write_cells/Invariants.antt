@@ -1,4 +1,4 @@
-use Rattle.std.proofs.Common.{◌≡◌, ◌≢◌, ℕ, ◌<◌, false, get_or, if◌then◌else◌, length}
+use Rattle.std.proofs.Common.{◌≡◌, ◌≢◌, ℕ, ◌<◌, false, get_or, if◌then◌else◌}
 use Rattle.rip_plan.specs.Relations.{IsInterface}
 use Rattle.rip_check.proofs.told_table.write_cells.Given as goal
 

@@ -1,9 +1,9 @@
-use Rattle.std.proofs.Common.{◌≡◌, ℕ, ◌+◌, ◌≤◌, List, [], ◌∷◌, ◌++◌, length, map, refl, sym, ap, ◌∙◌, arith}
+use Rattle.std.proofs.Common.{◌≡◌, ℕ, ◌+◌, [], ◌∷◌, ◌++◌, length, sym, ap, ◌∙◌, arith}
 use Rattle.std.specs.declared.vec.Vec.{Vec}
 use Rattle.std.specs.declared.alloc.Global.{Global}
 use Rattle.std.proofs.lemmas.List.{length-append, map-append, length-map}
-use Rattle.rip_check.specs.ToldCells.{AreToldRows, IsToldRow, rows_of}
-use Rattle.rip_check.proofs.ToldStateLemmas.{rows_more, told_by, told_fits, told_state_is}
+use Rattle.rip_check.specs.ToldCells.{IsToldRow, rows_of}
+use Rattle.rip_check.proofs.ToldStateLemmas.{rows_more, told_by, told_state_is}
 use Rattle.rip_check.proofs.told_table.ToldTable.find.Goals as goal
 
 pub loop-prefix-preserved : goal.loop-prefix-preserved
