@@ -44,5 +44,5 @@ AnywayCommandText anyway.Table = TableAnyway
 
 -- what a command prints of the routers' own tables, and of what they tell
 abbrev pub OwnCommandText : OwnCommand → Network → OwnTables → State → Written → Type 0
-OwnCommandText (own.Audit all) n t told = OwnVerdictText n t told all
-OwnCommandText (own.Explain all) n t told = OwnExplainText n t told all
+OwnCommandText (own.Audit all) n t told = OwnVerdictText n all t told
+OwnCommandText (own.Explain all) n t told = OwnExplainText n all t told
