@@ -24,7 +24,8 @@ _ripaudit() {
     fi
     case $command:$given:$current in
     :0:-*) _ripaudit_words --help --version ;;
-    audit:*:-* | explain:*:-* | whatif:*:-*) _ripaudit_words --all --help ;;
+    audit:*:-* | explain:*:-*) _ripaudit_words --all --routes --help ;;
+    whatif:*:-*) _ripaudit_words --all --help ;;
     routes:*:-* | table:*:-*) _ripaudit_words --anyway --help ;;
     watch:*:-*) _ripaudit_words --window --until-settled --help ;;
     log:*:-*) _ripaudit_words --without-authentication --times --help ;;

@@ -11,7 +11,7 @@ end
 
 function __ripaudit_commands
     printf '%s\t%s\n' \
-        audit 'tell whether the routes that a log shows are right' \
+        audit 'tell whether routes are right, those that a log shows or those that routers have' \
         explain 'tell the verdict of audit, and what it comes from' \
         heard "tell who is in a log, and all that is refused, a stranger's or bad" \
         routes 'print the routes that a log shows' \
@@ -31,6 +31,7 @@ complete -c ripaudit -n '__ripaudit_word 1' -l version -d 'print the version'
 complete -c ripaudit -n '__ripaudit_word 1' -a '(__ripaudit_commands)'
 complete -c ripaudit -n '__ripaudit_word 2; and __fish_seen_subcommand_from help' -a '(__ripaudit_commands)'
 complete -c ripaudit -n '__fish_seen_subcommand_from audit explain' -l all -d 'tell of each place, not only of the first'
+complete -c ripaudit -n '__fish_seen_subcommand_from audit explain' -l routes -d 'judge the routes that routers have, not those of a log'
 complete -c ripaudit -n '__fish_seen_subcommand_from routes table' -l anyway -d "leave out what is refused, a stranger's or bad, and go on"
 complete -c ripaudit -n '__fish_seen_subcommand_from log' -l without-authentication -d 'print datagrams as they would be without their authentication'
 complete -c ripaudit -n '__fish_seen_subcommand_from log' -l times -d 'begin each line of a packet with its time'

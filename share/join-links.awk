@@ -33,7 +33,7 @@ function need(router, section) {
 function join(router,    i, name, net, seat) {
     if ((router, "rip interfaces") in shown) {
         need(router, "interfaces")
-        need(router, "route all")
+        need(router, "route all export")
     } else if ((router, "ip rip status") in shown) {
         need(router, "interface")
         need(router, "ip rip")

@@ -1,14 +1,6 @@
-# Reads what daemons of FRR and BIRD say, in a file for each router, for draft-plan.awk. In a file `== show WORDS` stands
-# above what a command printed. Of a router it notes the interfaces on which it speaks RIP (`on`), all its addresses, what
-# interfaces of BIRD cost, and the prefixes that it announces itself (`own`) with the next hop and the metric of each.
-
-# Ends with a line on standard error.
-function stop(text) {
-    print "plan-from-routers: " text | "cat >&2"
-    close("cat >&2")
-    stopped = 1
-    exit 1
-}
+# Notes what daemons of FRR and BIRD say, after read-sections.awk and for draft-plan.awk. Of a router it notes the interfaces on
+# which it speaks RIP (`on`), all its addresses, what interfaces of BIRD cost, and the prefixes that it announces itself (`own`)
+# with the next hop and the metric of each.
 
 # Notes the first address of an interface, or a further one.
 function add_address(text) {
@@ -25,24 +17,10 @@ function add_own(text, hop, cost) {
 }
 
 FNR == 1 {
-    router = FILENAME
-    sub(/.*\//, "", router)
-    names[++routers] = router
-    section = ""
     depth = unnamed = comment = 0
     statement = ""
 }
-{ sub(/\r$/, "") }
-/^== show / {
-    section = $0
-    sub(/^== show /, "", section)
-    sub(/ (\||export ).*/, "", section)
-    shown[router, section] = $0
-    part = ""
-    if (section == "route all") exporter[router] = $NF
-    next
-}
-/^% |^syntax error|^No valid tables/ { stop(router ": show " section ": " $0) }
+is_error() { stop(router ": show " section ": " $0) }
 
 # FRR. Below `Passive Interface(s):` stand those that do not speak. `show ip rip` has metric 1 for what is redistributed.
 section == "ip rip status" && /^  [^ ]/ { part = $1 }
@@ -65,9 +43,9 @@ section == "rip interfaces" && $2 == "Up" {
 }
 section == "interfaces" && /^[^ \t]/ { name = $1 }
 section == "interfaces" && /^\t[0-9.]+\/[0-9]+ .*Preferred/ { add_address($1) }
-section == "route all" && /^[^ \t]/ {
+section == "route all export" && /^[^ \t]/ {
     prefix = ""
     if (/^[0-9.]+\/[0-9]+ / && $3 != "[" exporter[router]) add_own($1, "", 1)
 }
-section == "route all" && $1 == "via" && prefix != "" { gateway[router, prefix] = $2 }
-section == "route all" && $1 == "RIP.metric:" && prefix != "" { metric[router, prefix] = $2 }
+section == "route all export" && $1 == "via" && prefix != "" { gateway[router, prefix] = $2 }
+section == "route all export" && $1 == "RIP.metric:" && prefix != "" { metric[router, prefix] = $2 }

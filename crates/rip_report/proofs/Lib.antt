@@ -28,3 +28,5 @@ pub mod SelectionLemmas
 pub mod LineTimeLemmas
 pub mod CapturedFileLemmas
 pub mod SaidFileLemmas
+pub mod OwnTextLemmas
+pub mod OwnPlaceLemmas

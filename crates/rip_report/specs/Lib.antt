@@ -33,3 +33,5 @@ pub mod CaptureLogs
 pub mod CapturePackets
 pub mod WatchText
 pub mod Films
+pub mod OwnText
+pub mod OwnRuns

@@ -1,7 +1,7 @@
 //! The command `explain`: the verdict on a log, and what it comes from.
 
-mod lines;
-mod places;
+pub(crate) mod lines;
+pub(crate) mod places;
 mod troubles;
 
 ghost use Rattle.std.specs.Prelude.{◌≡◌, ◌↔◌, ℕ, Bool, List, IfOk, None, false, true, Some};
@@ -41,8 +41,9 @@ use troubles::add_unclear;
 
 /// The planned prefixes that routers cannot reach.
 #[derive(Drop)]
-struct Unreachable {
-    expected: Expected,
+pub(crate) struct Unreachable {
+    /// The least metrics of the plan.
+    pub expected: Expected,
 }
 
 impl PairText for Unreachable {

@@ -40,7 +40,7 @@ pub(crate) fn push_log_code<K: Sink>(out: &mut Out<K>, code: LogCode)
 }
 
 /// Adds a prefix, after its word.
-fn push_prefix_part<K: Sink>(out: &mut Out<K>, prefix: Prefix)
+pub(crate) fn push_prefix_part<K: Sink>(out: &mut Out<K>, prefix: Prefix)
     ensures { Adds out.old out.new (prefix_part prefix) }
 {
     out.push(" prefix ");
@@ -48,7 +48,7 @@ fn push_prefix_part<K: Sink>(out: &mut Out<K>, prefix: Prefix)
 }
 
 /// Adds from which metric to which.
-fn push_change<K: Sink>(out: &mut Out<K>, old: Metric, new: Metric)
+pub(crate) fn push_change<K: Sink>(out: &mut Out<K>, old: Metric, new: Metric)
     ensures { Adds out.old out.new (change_text old new) }
 {
     out.push(" from ");
@@ -78,7 +78,7 @@ pub(crate) fn push_table_error<K: Sink>(out: &mut Out<K>, error: TableError)
 }
 
 /// Adds a line of the log, after its word.
-fn push_line<K: Sink>(out: &mut Out<K>, word: &str, line: u64)
+pub(crate) fn push_line<K: Sink>(out: &mut Out<K>, word: &str, line: u64)
     ensures { Adds out.old out.new (at_line word.now line) }
 {
     out.push_numbered(word, line as usize);

@@ -16,7 +16,7 @@ use Rattle.rip_routes.specs.declared.error.RoutesError.{RoutesError}
 use Rattle.rip_routes.specs.declared.told.Told.{Told}
 use Rattle.rip_routes.specs.OwnTables.{OwnRoute, OwnTables}
 use Rattle.rip_routes.specs.RouteLines.{line_said}
-use Rattle.rip_routes.specs.RouteText.{AreAccepted, AreTold, IsFault, IsOfPlace, IsRefused, LineSays, MakePlace, MakeTables, RefuseText, TellTables, bad, refused, too_many}
+use Rattle.rip_routes.specs.RouteText.{AreAccepted, AreTold, IsFault, IsOfPlace, IsRefused, LineSays, MakePlace, MakeTables, RefusesText, TellTables, bad, refused, too_many}
 use Rattle.rip_routes.specs.Telling.{is_full, new_tables, tell, tell_at, tell_line, tell_lines, tell_said, tell_text, then_tell, with_told}
 use Rattle.rip_routes.proofs.LinesLemmas.{next_line, tells_on}
 use Rattle.rip_routes.proofs.MakeLemmas.{among_at, at_among, made_more, new_made, one_made}
@@ -315,7 +315,7 @@ module _ (laws : TextLaws) (n : Network) (lawful : IsLawful n) where
       let (u, tells, made) = all_told h.lines 0 [] h.tolds (new_tables n) (omega (arith, h.few)) (new_made n) h.accepted h.are_told in
       ap (λ ls. tell_lines n 0 ls (new_tables n)) (lines_of-AreLines text h.lines h.are_lines) ∙ tells ∙ ap (λ (v : OwnTables). Ok v) (one_made n h.tolds u t made h.made)
 
-  pub refuses_text : (text : List ℕ) (e : RoutesError) → tell_text n text ≡ Err e → RefuseText n text e
+  pub refuses_text : (text : List ℕ) (e : RoutesError) → tell_text n text ≡ Err e → RefusesText n text e
   refuses_text text e is =
       let h : OneBad 0 (lines_of text) [] e = subst (ComeTo 0 (lines_of text) []) is (text_comes text) in
       record {
@@ -348,7 +348,7 @@ module _ (laws : TextLaws) (n : Network) (lawful : IsLawful n) where
       let again = subst (λ (w : OwnTables). IsRefused w told cause) (one_made n tolds u t there made) is in
       next_line n k line rest t (Err cause) few (said_tells t line (Ok (Some told)) says ∙ refused_at n tolds t told cause made again)
 
-  pub text_refused : (text : List ℕ) (e : RoutesError) → RefuseText n text e → tell_text n text ≡ Err e
+  pub text_refused : (text : List ℕ) (e : RoutesError) → RefusesText n text e → tell_text n text ≡ Err e
   text_refused text e h =
       let few = fault_few (length h.before) h.tolds h.bad e.cause h.fault in
       let (u, tells, made) = all_told h.before 0 [] h.tolds (new_tables n) (omega (arith, few)) (new_made n) h.accepted h.are_told in

@@ -255,7 +255,7 @@ pub data IsFault (n : Network) (k : ℕ) (tolds : List Told) (line : List ℕ) (
       → MakeTables n tolds t → IsRefused t told cause → IsFault n k tolds line cause
 
 -- the first line of a text that is refused, and its lowest code
-pub record RefuseText (n : Network) (text : List ℕ) (e : RoutesError) : Type 0 where
+pub record RefusesText (n : Network) (text : List ℕ) (e : RoutesError) : Type 0 where
   pub before : List (List ℕ)
   pub bad : List ℕ
   pub after : List (List ℕ)

@@ -6,7 +6,7 @@ ghost use Rattle.rip_plan.specs.Network.{Network};
 ghost use Rattle.rip_plan.specs.Relations.{IsLawful};
 ghost use Rattle.rip_routes.specs.OwnTables.{OwnTables};
 ghost use Rattle.rip_routes.specs.RouteLines.{line_said};
-ghost use Rattle.rip_routes.specs.RouteText.{LineSays, RefuseText, TellTables};
+ghost use Rattle.rip_routes.specs.RouteText.{LineSays, RefusesText, TellTables};
 ghost use Rattle.rip_routes.specs.Telling.{tell_line, tell_said, tell_text};
 ghost use Rattle.rip_routes.specs.declared.error.RoutesCause.{RoutesCause};
 ghost use Rattle.rip_routes.specs.declared.error.RoutesError.{RoutesError};
@@ -41,9 +41,9 @@ pub fn told_texts()
 /// then.
 pub fn refused_texts()
     ensures refused { (n : Network) (text : List ℕ) (e : RoutesError) →
-        IsLawful n → (tell_text n text ≡ Err e) ↔ RefuseText n text e }
+        IsLawful n → (tell_text n text ≡ Err e) ↔ RefusesText n text e }
     ensures apart { (n : Network) (text : List ℕ) (t : OwnTables) (e : RoutesError) →
-        IsLawful n → TellTables n text t → ¬ RefuseText n text e }
+        IsLawful n → TellTables n text t → ¬ RefusesText n text e }
 {
     laws::prefix_texts();
     laws::address_texts();

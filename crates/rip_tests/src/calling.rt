@@ -4,5 +4,6 @@ mod capture;
 mod check;
 mod log;
 mod plan;
+mod routes;
 mod table;
 mod wire;

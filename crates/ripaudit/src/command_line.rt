@@ -6,7 +6,7 @@ ghost use Rattle.rip_report.specs.declared.status.RunError.{RunError};
 use crate::capture_files::log_files;
 use crate::commands::{
     PlanCommand, ReadCommand, manner, plan_command, read_command, read_plan, run_anyway,
-    run_on_log, run_on_plan, watching,
+    run_on_log, run_on_plan, run_on_routes, watching,
 };
 use crate::words::{capture_word, first_bad_word};
 use clap::error::ErrorKind;
@@ -41,6 +41,16 @@ fn log_word<'a>(alloc: Global) -> Arg<'a> {
     )
 }
 
+/// The word of a log's file, or where `--routes` is given of that of the routers' own tables.
+fn log_or_routes_word<'a>(alloc: Global) -> Arg<'a> {
+    word(
+        alloc,
+        "LOG",
+        "The file of the log, or with --routes of the routes; standard input where it is left out",
+        false,
+    )
+}
+
 /// A flag: a word that begins with two hyphens and may be given.
 fn flag<'a>(alloc: Global, name: &'a str, help: &'a str) -> Arg<'a> {
     Arg::new(alloc, name)
@@ -69,14 +79,19 @@ fn on_log<'a>(alloc: Global, name: &'a str, about: &'a str) -> Result<Command<'a
     on_plan(alloc, name, about)?.arg(log_word(alloc))
 }
 
-/// A command that reads a plan and a log, and tells of all places where `--all` is given.
-fn on_log_with_all<'a>(
+/// A command that reads a plan and a log, or the routers' own tables where `--routes` is given, and
+/// tells of all places where `--all` is.
+fn on_log_or_routes<'a>(
     alloc: Global,
     name: &'a str,
     about: &'a str,
     all: &'a str,
 ) -> Result<Command<'a>, AllocError> {
-    on_log(alloc, name, about)?.arg(flag(alloc, "all", all))
+    let routes = "Judge the routes that routers have, as they tell them, not those of a log";
+    on_plan(alloc, name, about)?
+        .arg(log_or_routes_word(alloc))?
+        .arg(flag(alloc, "routes", routes))?
+        .arg(flag(alloc, "all", all))
 }
 
 /// A command that reads a plan and a log, and goes on where it is refused if `--anyway` is given.
@@ -149,15 +164,15 @@ fn commands<'a>(alloc: Global) -> Result<Command<'a>, AllocError> {
             .about("Audits the routes of a RIP version 2 network")
             .subcommand_required(true),
     );
-    let audit = "Tells whether the routes that a log shows are right";
+    let audit = "Tells whether routes are right, those that a log shows or those that routers have";
     let each = "Name each place that does not hold, not only the first";
-    let ripaudit = add(ripaudit, on_log_with_all(alloc, "audit", audit, each));
+    let ripaudit = add(ripaudit, on_log_or_routes(alloc, "audit", audit, each));
     let explain = "Tells the verdict of audit, and what it comes from";
     let of_each =
         "Tell of each place that does not hold or cannot be read, or of each interface not heard";
     let ripaudit = add(
         ripaudit,
-        on_log_with_all(alloc, "explain", explain, of_each),
+        on_log_or_routes(alloc, "explain", explain, of_each),
     );
     let heard = "Tells who is in a log, and all that is refused, a stranger's or bad";
     let ripaudit = add(ripaudit, on_log(alloc, "heard", heard));
@@ -231,28 +246,41 @@ fn plan_file<R: Files + AllocGlobal + Print>(
     run_on_plan(rt.alloc(), command, plan.as_slice(), out).1
 }
 
-/// Runs a command on a log.
+/// Runs a command on a log, or on routes.
 fn report_from<R: AllocGlobal + RandomSource + Print, L: Read + Drop>(
     rt: &R,
     command: ReadCommand,
     plan: &[u8],
-    log: L,
+    text: L,
 ) -> Result<Status, RunError> {
-    let (Ok(prefixes), Ok(strangers)) = (RandomState::new(rt), RandomState::new(rt)) else {
+    let (Ok(prefixes), Ok(others)) = (RandomState::new(rt), RandomState::new(rt)) else {
         return Err(RunError::Read);
     };
     let out = IntoWrite::new(io::writer(rt));
-    let log = FromRead::new(log);
+    let text = FromRead::new(text);
     let (_, _, outcome) = match command {
-        ReadCommand::Judged(command) => run_on_log(rt.alloc(), command, plan, log, out, prefixes),
+        ReadCommand::Judged(command) => {
+            run_on_log(rt.alloc(), command, plan, text, out, prefixes)
+        }
         ReadCommand::Anyway(command) => {
-            run_anyway(rt.alloc(), command, plan, log, out, prefixes, strangers)
+            run_anyway(rt.alloc(), command, plan, text, out, prefixes, others)
         }
         ReadCommand::Watch(watching) => {
-            run_watch(rt.alloc(), plan, log, out, watching, prefixes)
+            run_watch(rt.alloc(), plan, text, out, watching, prefixes)
+        }
+        ReadCommand::Own(command) => {
+            run_on_routes(rt.alloc(), command, plan, text, out, prefixes, others)
         }
     };
     outcome
+}
+
+/// What someone is told who sits at the standard input that a command reads.
+fn waiting_text<'a>(command: &ReadCommand) -> &'a str {
+    match command {
+        ReadCommand::Own(_) => "reading the routes from standard input",
+        _ => "reading the log from standard input",
+    }
 }
 
 /// Standard input, of which the text tells someone who sits at it.
@@ -268,23 +296,24 @@ where
     input
 }
 
-/// Runs a command on a file of a plan and on a log, which is standard input where no file is named.
+/// Runs a command on a file of a plan and on a log or routes, which are standard input where no
+/// file is named.
 fn report_file<R: Files + AllocGlobal + RandomSource + Input + Print + Eprint>(
     rt: &R,
     command: ReadCommand,
     path: &str,
-    log: Option<&str>,
+    text: Option<&str>,
 ) -> Result<Status, RunError>
 where
     R::Reader: IsTerminal,
 {
     let plan = read_plan_file(rt, path)?;
-    match log {
+    match text {
         None => {
-            let log = told_input(rt, "reading the log from standard input");
-            report_from(rt, command, plan.as_slice(), log)
+            let input = told_input(rt, waiting_text(&command));
+            report_from(rt, command, plan.as_slice(), input)
         }
-        Some(log) => match fs::open(rt, log) {
+        Some(text) => match fs::open(rt, text) {
             Ok(file) => report_from(rt, command, plan.as_slice(), file),
             Err(error) => Err(read_failure(&error)),
         },
@@ -352,7 +381,12 @@ where
     if let Some(command) = plan_command(word, all) {
         return Some(plan_file(rt, command, path));
     }
-    let command = read_command(word, all, words.get_flag("anyway"))?;
+    let command = read_command(
+        word,
+        all,
+        words.get_flag("anyway"),
+        words.get_flag("routes"),
+    )?;
     Some(report_file(rt, command, path, words.get_str("LOG")))
 }
 

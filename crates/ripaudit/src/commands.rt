@@ -5,22 +5,26 @@ ghost use Rattle.rip_plan.specs.Network.{Network};
 ghost use Rattle.rip_plan.specs.Relations.{IsPlain};
 ghost use Rattle.rip_table.specs.State.{State};
 ghost use Rattle.rip_table.specs.declared.limits.TheConstants.{MOST_WINDOW};
+ghost use Rattle.rip_routes.specs.OwnTables.{OwnTables};
 ghost use Rattle.rip_check.specs.Laws.{OneIsShown};
 ghost use Rattle.rip_check.specs.Told.{told};
 ghost use Rattle.rip_report.specs.AuditText.{AnswersRightly, IsJudged, ShowsPlainRightTables};
 ghost use Rattle.rip_report.specs.Given.{IsGiven};
+ghost use Rattle.rip_report.specs.OwnRuns.{RunsOnRoutes};
+ghost use Rattle.rip_report.specs.OwnText.{AreTold, JudgesRightly};
 ghost use Rattle.rip_report.specs.ReportText.{AreRead, IsAccepted};
 ghost use Rattle.rip_report.specs.Runs.{RunsOnLog, RunsOnPlan, RunsToEnd};
 ghost use Rattle.rip_report.specs.declared.captures.authentication.Authentication.{Authentication};
 ghost use Rattle.ripaudit.specs.declared.commands.TheConstants.{PIECE_LEN};
-ghost use Rattle.ripaudit.specs.CommandText.{AnywayCommandText, LogCommandText, PlanCommandText};
+ghost use Rattle.ripaudit.specs.CommandText.{AnywayCommandText, LogCommandText, OwnCommandText, PlanCommandText};
 
 use rip_log::{Failed, Sink, Source};
 use rip_plan::MOST_PLAN_BYTES;
 use rip_report::laws::accepted_tables;
 use rip_report::{
-    Authentication, Manner, RunError, Status, Watching, run_audit, run_expect, run_explain,
-    run_heard, run_plan, run_routes, run_routes_anyway, run_table, run_table_anyway, run_whatif,
+    Authentication, Manner, RunError, Status, Watching, run_audit, run_audit_routes, run_expect,
+    run_explain, run_explain_routes, run_heard, run_plan, run_routes, run_routes_anyway, run_table,
+    run_table_anyway, run_whatif,
 };
 use rip_table::WindowLength;
 use std::alloc::Global;
@@ -68,15 +72,26 @@ pub(crate) enum AnywayCommand {
     Table,
 }
 
-/// The commands that read a log.
+/// The commands that read what routers tell of their own tables.
+#[derive(Clone, Copy)]
+pub(crate) enum OwnCommand {
+    /// The verdict, with a line for each place that does not hold where all are asked for.
+    Audit { all: bool },
+    /// The verdict and what it comes from, for the first place that does not hold or for all.
+    Explain { all: bool },
+}
+
+/// The commands that read a plan and a second text.
 #[derive(Clone, Copy)]
 pub(crate) enum ReadCommand {
-    /// Those that end at the first line that is refused.
+    /// Those that read a log, and end at the first line that is refused.
     Judged(LogCommand),
-    /// Those that read it to its end, whatever its lines say.
+    /// Those that read a log to its end, whatever its lines say.
     Anyway(AnywayCommand),
     /// The one that reads a log with times.
     Watch(Watching),
+    /// Those that read what routers tell of their own tables.
+    Own(OwnCommand),
 }
 
 /// The command of that name that reads a plan alone, with all that is lost where it is asked for.
@@ -95,13 +110,17 @@ pub(crate) fn plan_command(word: &str, all: bool) -> Option<PlanCommand>
     }
 }
 
-/// The command of that name that reads a log, by its flags: `all` for all places, `anyway` for what
-/// is not refused.
-pub(crate) fn read_command(word: &str, all: bool, anyway: bool) -> Option<ReadCommand>
+/// The command of that name that reads a log or routes, by its flags: `all` for all places,
+/// `anyway` for what is not refused, `routes` for the routers' own tables in the place of a log.
+pub(crate) fn read_command(word: &str, all: bool, anyway: bool, routes: bool) -> Option<ReadCommand>
     ensures audit { (result ≡ Some (ReadCommand.Judged (LogCommand.Audit all)))
-        ↔ (word.now ≡ codes "audit") }
+        ↔ ((word.now ≡ codes "audit") × (routes ≡ false)) }
     ensures explain { (result ≡ Some (ReadCommand.Judged (LogCommand.Explain all)))
-        ↔ (word.now ≡ codes "explain") }
+        ↔ ((word.now ≡ codes "explain") × (routes ≡ false)) }
+    ensures audit_routes { (result ≡ Some (ReadCommand.Own (OwnCommand.Audit all)))
+        ↔ ((word.now ≡ codes "audit") × (routes ≡ true)) }
+    ensures explain_routes { (result ≡ Some (ReadCommand.Own (OwnCommand.Explain all)))
+        ↔ ((word.now ≡ codes "explain") × (routes ≡ true)) }
     ensures routes { (result ≡ Some (ReadCommand.Judged LogCommand.Routes))
         ↔ ((word.now ≡ codes "routes") × (anyway ≡ false)) }
     ensures table { (result ≡ Some (ReadCommand.Judged LogCommand.Table))
@@ -117,7 +136,9 @@ pub(crate) fn read_command(word: &str, all: bool, anyway: bool) -> Option<ReadCo
         result ≡ None }
 {
     Some(match word {
+        "audit" if routes => ReadCommand::Own(OwnCommand::Audit { all }),
         "audit" => ReadCommand::Judged(LogCommand::Audit { all }),
+        "explain" if routes => ReadCommand::Own(OwnCommand::Explain { all }),
         "explain" => ReadCommand::Judged(LogCommand::Explain { all }),
         "routes" if anyway => ReadCommand::Anyway(AnywayCommand::Routes),
         "routes" => ReadCommand::Judged(LogCommand::Routes),
@@ -270,5 +291,34 @@ pub(crate) fn run_anyway<R: Source, K: Sink, S: BuildHasher + Drop>(
         AnywayCommand::Heard => run_heard(alloc, plan, log, out, prefixes, strangers),
         AnywayCommand::Routes => run_routes_anyway(alloc, plan, log, out, prefixes),
         AnywayCommand::Table => run_table_anyway(alloc, plan, log, out, prefixes),
+    }
+}
+
+/// Runs a command on the bytes of a plan and on what routers tell of their own tables. The source
+/// and the sink come back. (Why so many arguments: DECISIONS.md.)
+pub(crate) fn run_on_routes<R: Source, K: Sink, S: BuildHasher + Drop>(
+    alloc: Global,
+    command: OwnCommand,
+    plan: &[u8],
+    routes: R,
+    out: K,
+    prefixes: S,
+    ways: S,
+) -> (R, K, Result<Status, RunError>)
+    // What it prints and leaves, by the text of the command.
+    ensures runs { RunsOnRoutes R.Source K.Sink (OwnCommandText command) plan.now routes out
+        result }
+    // Settled is answered exactly where the routers' own tables are right, and then packets arrive.
+    ensures headline { (text : List ℕ) → IsGiven R.given R.at_end routes result.0 text →
+        (n : Network) (t : OwnTables) → AreTold plan.now text n t →
+        IfOk result.2 (JudgesRightly n t) }
+{
+    match command {
+        OwnCommand::Audit { all } => {
+            run_audit_routes(alloc, plan, routes, out, all, prefixes, ways)
+        }
+        OwnCommand::Explain { all } => {
+            run_explain_routes(alloc, plan, routes, out, all, prefixes, ways)
+        }
     }
 }

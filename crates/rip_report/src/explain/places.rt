@@ -106,7 +106,7 @@ impl<T: Table> NumberText for OffersOverLink<'_, T> {
 }
 
 /// Adds all that is offered to a router.
-fn add_offers<T: Table, K: Sink>(out: &mut Out<K>, case: &Case<'_, T>, router: usize)
+pub(crate) fn add_offers<T: Table, K: Sink>(out: &mut Out<K>, case: &Case<'_, T>, router: usize)
     requires { router < length (network_of case.now).routers }
     ensures { AddsOne out.old out.new
         (OfferLines (network_of case.now) (state_of case.now) router case.now.prefix) }
@@ -116,7 +116,7 @@ fn add_offers<T: Table, K: Sink>(out: &mut Out<K>, case: &Case<'_, T>, router: u
 }
 
 /// Adds the cost at which a router has a prefix itself, if it does.
-fn add_direct<K: Sink>(out: &mut Out<K>, plan: &Plan, router: usize, prefix: usize)
+pub(crate) fn add_direct<K: Sink>(out: &mut Out<K>, plan: &Plan, router: usize, prefix: usize)
     ensures { AddsOne out.old out.new (DirectLine plan.now router prefix) }
 {
     if let Some(cost) = plan.direct_cost(router, prefix) {

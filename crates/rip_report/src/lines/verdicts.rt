@@ -51,7 +51,7 @@ pub(crate) fn push_settled_line<T: Table, K: Sink>(out: &mut Out<K>, plan: &Plan
 }
 
 /// Adds a place, of which the numbers are given, as `router R prefix P: `.
-fn push_place<T: Table, K: Sink>(
+pub(crate) fn push_place<T: Table, K: Sink>(
     out: &mut Out<K>,
     plan: &Plan,
     table: &T,
