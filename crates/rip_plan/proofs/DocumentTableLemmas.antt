@@ -1,22 +1,22 @@
 -- The tables whose fields are read are those that have the keys, each of its kind.
-use Rattle.std.proofs.Common.{◌≡◌, ℕ, zero, suc, inl, inr, List, [], ◌∷◌, Bool, true, cond, Option, Some, None, Ordering, nat_cmp, is_eq, refl, sym, ◌∙◌, ap, arith}
+use Rattle.std.proofs.Common.{◌≡◌, ℕ, zero, suc, inl, inr, List, [], ◌∷◌, Bool, true, cond, Option, Some, None, Ordering, nat_cmp, is_eq, refl, sym, ◌∙◌, ap, subst, arith}
 use Rattle.std.proofs.lemmas.Bool.{and_parts}
-use Rattle.std.specs.Prelude.{is_some, slice_get, codes as codes_of}
+use Rattle.std.specs.Prelude.{is_some, slice_get, unwrap_or, codes as codes_of}
 use Rattle.std.specs.List.{list_all}
 use Rattle.std.specs.Str.{bytes_eq}
 use Rattle.std.specs.Ordering.{match_ordering}
 use Rattle.std.specs.Cmp.Lexicographic.{slice_cmp}
 use Rattle.std.proofs.lemmas.Map.Text.{is_eq-slice_cmp}
-use Rattle.std.proofs.lemmas.Option.{none-some}
+use Rattle.std.proofs.lemmas.Option.{none-some, same_Some}
 use Rattle.std.proofs.lemmas.Slice.Eq.{bytes_eq-Decides}
 use Rattle.toml.specs.Data.{Data, Members, get, no_members, member, table, get_member, as_str, as_table}
 use Rattle.rip_plan.specs.declared.limits.TheConstants.{DEFAULT_POISON}
 use Rattle.rip_plan.specs.DocumentTables.{HasOnly, MayHave, IsInterfaceTable, IsLinkTable, IsOwnTable, IsRoot, IsRouterTable, IsString, IsTextList}
 use Rattle.rip_plan.specs.Keys.{keys_of, the_root, a_link, a_router, an_interface, an_own}
-use Rattle.rip_plan.specs.Fields.{InterfaceFields, OwnFields, ◌&>◌, flag_if, has_only, integer_if, interface_fields, items_if, link_fields, own_fields, root_fields, router_fields, text_at, texts_of}
+use Rattle.rip_plan.specs.Fields.{InterfaceFields, LinkFields, OwnFields, ◌&>◌, flag_if, has_only, integer_if, interface_fields, items_at, items_if, link_fields, list_given, own_fields, root_fields, router_fields, text_at, texts_of}
 use Rattle.rip_plan.specs.Names.{is_one_of}
 use Rattle.rip_plan.proofs.ItemLemmas.{any_at, any_finds, cases_option}
-use Rattle.rip_plan.specs.PlanOf.{HasItems, HasText, IsKeptOf, IsNameOf, IsPoisonOf, items_in}
+use Rattle.rip_plan.specs.PlanOf.{HasItems, HasText, IsKeptOf, IsListGiven, IsListOf, IsNameOf, IsPoisonOf, items_in}
 use Rattle.rip_plan.proofs.TableLemmas.{IsFlagIf, IsTextIf, chosen, table_is, then_some}
 
 -- ---- keys
@@ -68,16 +68,39 @@ root_table doc links routers poison h =
     grind (arith, keys_only)
 
 -- what a link's table holds
-pub record HasLinkFields (d : Data) (name : List ℕ) (prefixes : List Data) : Type 0 where
-  pub named : IsNameOf name d
-  pub prefixes_are : items_in (get (codes_of "prefixes") d) ≡ prefixes
+pub record HasLinkFields (d : Data) (f : LinkFields) : Type 0 where
+  pub named : IsNameOf f.name d
+  pub prefixes_are : items_in (get (codes_of "prefixes") d) ≡ f.prefixes
+  pub has_list : IsListOf (is_some f.only) d
+  pub only_are : items_in (get (codes_of "only") d) ≡ unwrap_or f.only []
   pub shape : IsLinkTable d
 
-pub link_table : (d : Data) (name : List ℕ) (prefixes : List Data) → (as_table d &> link_fields) ≡ Some (name, prefixes) → HasLinkFields d name prefixes
+pub link_table : (d : Data) (f : LinkFields) → (as_table d &> link_fields) ≡ Some f → HasLinkFields d f
 unfolding link_fields
-link_table d name prefixes h =
-    let (ms, is, h1) = then_some (as_table d) link_fields (name, prefixes) h in
-    rw (table_is d ms is) (grind (arith, keys_only))
+link_table d f h =
+    let (ms, is, h1) = then_some (as_table d) link_fields f h in
+    let (keys, h2) = chosen (has_only (keys_of a_link) ms) _ f h1 in
+    let (a, first, h3) = then_some (text_at (codes_of "name") ms) _ f h2 in
+    let (b, second, h4) = then_some (items_at (codes_of "prefixes") ms) _ f h3 in
+    let (c, third, h5) = then_some (list_given (get_member (codes_of "only") ms)) _ f h4 in
+    let same : record { name = a; prefixes = b; only = c } ≡ f = same_Some _ f h5 in
+    rw (table_is d ms is) (subst (HasLinkFields (table ms)) same (record {
+      named = grind arith;
+      prefixes_are = grind arith;
+      has_list = list_shown (get_member (codes_of "only") ms) c third;
+      only_are = grind arith;
+      shape = record {
+        members = ms;
+        is_table = refl;
+        keys = keys_only (keys_of a_link) ms keys;
+        name = grind arith;
+        prefixes = grind arith;
+        only = grind arith;
+      };
+    }))
+  where
+    list_shown : (o : Option Data) (given : Option (List Data)) → list_given o ≡ Some given → IsListGiven o (is_some given)
+    list_shown o given h = grind arith
 
 -- what an interface's table holds
 pub record HasInterfaceFields (d : Data) (f : InterfaceFields) : Type 0 where

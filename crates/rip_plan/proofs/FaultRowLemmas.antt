@@ -6,13 +6,13 @@ use Rattle.toml.specs.Data.{Data, Members}
 use Rattle.rip_plan.specs.declared.error.PlanCode.{PlanCode}
 use Rattle.rip_plan.specs.declared.error.PlanCode.TheVariants as codes
 use Rattle.rip_plan.specs.declared.error.At.{At}
-use Rattle.rip_plan.specs.declared.error.At.TheVariants.{Link, LinkPrefix, Router, RouterInterface, RouterOwn}
+use Rattle.rip_plan.specs.declared.error.At.TheVariants.{Link, LinkOnly, LinkPrefix, Router, RouterInterface, RouterOwn}
 use Rattle.rip_plan.specs.declared.error.PlanError.{PlanError}
 use Rattle.rip_plan.specs.PlanFaults.{Before, nth, pass_of, TableFault, IsItem, IsSo, IsAstray, place_spots}
 use Rattle.rip_plan.specs.PlanOf.{PlanOf}
 use Rattle.rip_plan.specs.Network.{Network}
 use Rattle.rip_plan.proofs.FindingLemmas.{Among, Each, Finds, Found, InTurn, Low, ranked, row_at, Starts}
-use Rattle.rip_plan.proofs.SpotLemmas.{nth_from, item_from, prefix_item, own_item, interface_item, also_item}
+use Rattle.rip_plan.proofs.SpotLemmas.{nth_from, item_from, listed_item, prefix_item, own_item, interface_item, also_item}
 
 -- ---- the rows of one place
 
@@ -20,6 +20,7 @@ use Rattle.rip_plan.proofs.SpotLemmas.{nth_from, item_from, prefix_item, own_ite
 abbrev pub codes_at : At → List PlanCode
 codes_at (Link i) = codes.Key ∷ codes.Name ∷ codes.DuplicateName ∷ []
 codes_at (LinkPrefix i j) = codes.Key ∷ codes.Prefix ∷ codes.Limit ∷ []
+codes_at (LinkOnly i j) = codes.Key ∷ codes.Prefix ∷ codes.Limit ∷ []
 codes_at (Router r) = codes.Key ∷ codes.Name ∷ codes.DuplicateName ∷ []
 codes_at (RouterInterface r j) = codes.Key ∷ codes.Address ∷ codes.Cost ∷ codes.UnknownLink ∷ codes.OutsidePrefix ∷ codes.Limit ∷ []
 codes_at (RouterOwn r j) = codes.Key ∷ codes.Address ∷ codes.Prefix ∷ codes.Cost ∷ codes.UnknownLink ∷ codes.Limit ∷ []
@@ -31,6 +32,9 @@ asked_at place = map (λ c. row_at c place) (codes_at place)
 abbrev pub prefix_rows : ℕ → ℕ → Found → Type 0
 prefix_rows i j = Among (asked_at (LinkPrefix i j)) (λ o. ⊥)
 
+abbrev pub listed_rows : ℕ → ℕ → Found → Type 0
+listed_rows i j = Among (asked_at (LinkOnly i j)) (λ o. ⊥)
+
 abbrev pub interface_rows : ℕ → ℕ → Found → Type 0
 interface_rows r j = Among (asked_at (RouterInterface r j)) (λ o. ⊥)
 
@@ -39,7 +43,7 @@ own_rows r j = Among (asked_at (RouterOwn r j)) (λ o. ⊥)
 
 -- and those of the lists of a table, which come after its own
 abbrev pub rest_at : At → Found → Type 0
-rest_at (Link i) = Each (prefix_rows i) 1
+rest_at (Link i) = λ o. Each (prefix_rows i) 1 o ⊎ Each (listed_rows i) 1 o
 rest_at (Router r) = λ o. Each (interface_rows r) 1 o ⊎ Each (own_rows r) 1 o
 rest_at place = λ o. ⊥
 
@@ -56,6 +60,9 @@ turn_at place = grind arith
 
 pub prefix_starts : (i j : ℕ) (o : Found) → prefix_rows i j o → Starts (0 ∷ 1 ∷ i ∷ 1 ∷ []) j (ranked o)
 prefix_starts i j o h = grind arith
+
+pub listed_starts : (i j : ℕ) (o : Found) → listed_rows i j o → Starts (0 ∷ 1 ∷ i ∷ 2 ∷ []) j (ranked o)
+listed_starts i j o h = grind arith
 
 pub link_starts : (i : ℕ) (o : Found) → link_rows i o → Starts (0 ∷ 1 ∷ []) i (ranked o)
 link_starts i o h = grind arith
@@ -106,6 +113,9 @@ first_pass o h = grind arith
 pub links_sooner : (e o : Found) → links_rows e → routers_rows o → Before (ranked o) (ranked e) → ⊥
 links_sooner e o (i, le, h) (r, le', k) = grind arith
 
+pub prefixes_sooner : (i : ℕ) (e o : Found) → Each (prefix_rows i) 1 e → Each (listed_rows i) 1 o → Before (ranked o) (ranked e) → ⊥
+prefixes_sooner i e o (j, le, h) (m, le', k) = grind arith
+
 pub interfaces_sooner : (r : ℕ) (e o : Found) → Each (interface_rows r) 1 e → Each (own_rows r) 1 o → Before (ranked o) (ranked e) → ⊥
 interfaces_sooner r e o (j, le, h) (m, le', k) = grind arith
 
@@ -138,6 +148,7 @@ module _ (document : Members) (links routers : List Data) where
   abbrev StandsAt : At → Type 0
   StandsAt (Link i) = (d : Data) × (nth links i ≡ Some d)
   StandsAt (LinkPrefix i j) = (x : Data) × IsItem (codes_of "prefixes") links i j x
+  StandsAt (LinkOnly i j) = (x : Data) × IsItem (codes_of "only") links i j x
   StandsAt (Router r) = (d : Data) × (nth routers r ≡ Some d)
   StandsAt (RouterInterface r j) = (x : Data) × IsItem (codes_of "interface") routers r j x
   StandsAt (RouterOwn r j) = (x : Data) × IsItem (codes_of "own") routers r j x
@@ -151,6 +162,9 @@ module _ (document : Members) (links routers : List Data) where
   asked R codes.Key (LinkPrefix i j) h = inl ((h.0, h.1), inl refl)
   asked R codes.Prefix (LinkPrefix i j) h = inl ((_, h.1), inr (inl refl))
   asked R codes.Limit (LinkPrefix i j) h = inl (prefix_item links routers h.0 i j h.1, inr (inr (inl refl)))
+  asked R codes.Key (LinkOnly i j) h = inl ((h.0, h.1), inl refl)
+  asked R codes.Prefix (LinkOnly i j) h = inl ((_, h.1), inr (inl refl))
+  asked R codes.Limit (LinkOnly i j) h = inl (listed_item links h.0 i j h.1, inr (inr (inl refl)))
   asked R codes.Key (Router r) h = inl ((h.0, h.1), inl refl)
   asked R codes.Name (Router r) h = inl ((h.0, h.2), inr (inl refl))
   asked R codes.DuplicateName (Router r) h = inl ((h.0, h.4), inr (inr (inl refl)))
@@ -175,7 +189,8 @@ module _ (document : Members) (links routers : List Data) where
 
   first_row : (place : At) (o : Found) → StandsAt place → Among (asked_at place) (rest_at place) o → first_rows o
   first_row (Link i) o (d, is) row = inl (i, (nth_from links i d is).0, row)
-  first_row (LinkPrefix i j) o (x, item) row = let at = item_from (codes_of "prefixes") links i j x item in inl (i, at.0, inr (inr (inr (j, at.2, row))))
+  first_row (LinkPrefix i j) o (x, item) row = let at = item_from (codes_of "prefixes") links i j x item in inl (i, at.0, inr (inr (inr (inl (j, at.2, row)))))
+  first_row (LinkOnly i j) o (x, item) row = let at = item_from (codes_of "only") links i j x item in inl (i, at.0, inr (inr (inr (inr (j, at.2, row)))))
   first_row (Router r) o (d, is) row = inr (r, (nth_from routers r d is).0, row)
   first_row (RouterInterface r j) o (x, item) row = let at = item_from (codes_of "interface") routers r j x item in inr (r, at.0, inr (inr (inr (inl (j, at.2, row)))))
   first_row (RouterOwn r j) o (x, item) row = let at = item_from (codes_of "own") routers r j x item in inr (r, at.0, inr (inr (inr (inr (j, at.2, row)))))
@@ -202,8 +217,10 @@ module _ (document : Members) (links routers : List Data) where
   link_within i o f row =
       elim (stands (Link i) o (link_starts i o row).0 f row) [
         | inl (d, is) ↦ (nth_from links i d is).1
-        | inr (j, le, later) ↦
+        | inr (inl (j, le, later)) ↦
             let (x, item) = item_stands (LinkPrefix i j) o (λ n. n) (prefix_starts i j o later).0 f later in (item_from (codes_of "prefixes") links i j x item).1
+        | inr (inr (j, le, later)) ↦
+            let (x, item) = item_stands (LinkOnly i j) o (λ n. n) (listed_starts i j o later).0 f later in (item_from (codes_of "only") links i j x item).1
       ]
 
   pub router_within : (r : ℕ) (o : Found) → IsTold o → router_rows r o → r ≤ length routers

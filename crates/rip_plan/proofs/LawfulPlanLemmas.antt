@@ -4,7 +4,7 @@ use Rattle.std.specs.Prelude.{◌==◌, slice_get, codes as codes_of}
 use Rattle.std.specs.List.{IsDistinct, list_any}
 use Rattle.std.proofs.lemmas.Bool.{and_parts, cases_lt, both_ways, cases_Bool, eq-eqb, eqb-true}
 use Rattle.std.proofs.lemmas.Bool.Decides.{nat_tests}
-use Rattle.std.proofs.lemmas.Option.{same_Some, slice_get_within}
+use Rattle.std.proofs.lemmas.Option.{none-some, same_Some, slice_get_within}
 use Rattle.toml.specs.Data.{Data, Members, get, string, table}
 use Rattle.rip_wire.specs.Name.{IsName}
 use Rattle.rip_wire.specs.Prefix.{Block, IsBlock}
@@ -12,7 +12,7 @@ use Rattle.rip_plan.specs.declared.error.PlanCode.{PlanCode}
 use Rattle.rip_plan.specs.declared.error.PlanCode.TheVariants as codes
 use Rattle.rip_plan.specs.declared.error.PlanError.{PlanError}
 use Rattle.rip_plan.specs.declared.error.At.{At}
-use Rattle.rip_plan.specs.declared.error.At.TheVariants.{Text, Link, LinkPrefix, Router, RouterInterface, RouterOwn}
+use Rattle.rip_plan.specs.declared.error.At.TheVariants.{Text, Link, LinkOnly, LinkPrefix, Router, RouterInterface, RouterOwn}
 use Rattle.rip_plan.specs.declared.parts.Interface.{Interface}
 use Rattle.rip_plan.specs.declared.parts.OwnPrefix.{OwnPrefix}
 use Rattle.rip_plan.specs.declared.parts.Seat.{Seat}
@@ -24,20 +24,20 @@ use Rattle.rip_plan.specs.Fields.{list_of}
 use Rattle.rip_plan.specs.Network.{Network, cost_on, is_of, network_of_sketch}
 use Rattle.rip_plan.specs.Passes.{same_prefix}
 use Rattle.rip_plan.specs.Seats.{is_on}
-use Rattle.rip_plan.specs.PlanFaults.{AreTwice, DoMeet, HasTables, HasWrongCost, HasWrongDirect, HaveOneAddress, IsAstray, IsClash, IsFault, IsMisnamed, IsText, TableFault, also_spots, interface_spots, pass_of, place_spots}
-use Rattle.rip_plan.specs.PlanOf.{AreAlsoOf, HasItems, IsAddressOf, IsCostOf, IsDirectOf, IsInterfaceOf, IsNameOf, IsPlaceOf, IsPlanOfText, Matched, Placement, PlanOf, each_once, items_in, items_under}
+use Rattle.rip_plan.specs.PlanFaults.{AreTwice, DoMeet, HasTables, HasWrongCost, HasWrongDirect, HaveOneAddress, IsAstray, IsClash, IsFault, IsMisnamed, IsText, TableFault, also_spots, interface_spots, listed_spots, pass_of, place_spots}
+use Rattle.rip_plan.specs.PlanOf.{AreAlsoOf, HasItems, IsAddressOf, IsCostOf, IsDirectOf, IsInterfaceOf, IsListOf, IsListedOf, IsNameOf, IsPlaceOf, IsPlanOfText, Matched, Placement, PlanOf, each_once, items_in, items_under}
 use Rattle.rip_plan.specs.PlanText.{sketch_of}
-use Rattle.rip_plan.specs.Relations.{Carries, HasAddress, HasAddresses, IsAttached, IsConnected, IsEachOnce, IsGateway, IsInside, IsInterface, IsLawful, IsOn, IsOwnAt, IsPlace, IsPrefix}
+use Rattle.rip_plan.specs.Relations.{Carries, HasAddress, HasAddresses, HasList, IsAttached, IsConnected, IsEachOnce, IsGateway, IsInside, IsInterface, IsLawful, IsListed, IsOn, IsOwnAt, IsPlace, IsPrefix}
 use Rattle.rip_plan.proofs.DocumentTableLemmas.{by_root}
-use Rattle.rip_plan.proofs.SpotLemmas.{also_spot, interface_spot, place_spot, under_item}
+use Rattle.rip_plan.proofs.SpotLemmas.{also_spot, interface_spot, place_spot, spot_under, under_item}
 use Rattle.rip_plan.proofs.ItemLemmas.{all_at, all_here, any_finds, cases_option, distinct_at, get_left, get_seen, get_some, get_split, none_at}
 use Rattle.rip_plan.proofs.LookupLemmas.{cost_found, cost_there, interface_of, on_seat, own_inside}
-use Rattle.rip_plan.proofs.MatchingLemmas.{matched_left, matched_length}
+use Rattle.rip_plan.proofs.MatchingLemmas.{matched_left, matched_length, matched_right}
 use Rattle.rip_plan.proofs.NumberingLemmas.{once_distinct, once_kept, same_self}
 use Rattle.rip_plan.proofs.BelowLemmas.{at_contains}
 use Rattle.rip_plan.proofs.OnePlanLemmas.{items_same}
 use Rattle.rip_plan.proofs.PlanMatchLemmas.{matches}
-use Rattle.rip_plan.proofs.PlanPartLemmas.{apart, names_differ, also_counted, carrier_has, prefix_place, interface_table, interfaces_count, its_place, own_table, places_count}
+use Rattle.rip_plan.proofs.PlanPartLemmas.{apart, names_differ, also_counted, carrier_has, prefix_place, interface_table, interfaces_count, listed_count, its_place, own_table, places_count}
 use Rattle.rip_plan.proofs.TextFaultLemmas.{faultless, read_or_told, whole_fault}
 use Rattle.rip_plan.proofs.TextLemmas.{TextLaws, one_prefix}
 
@@ -227,6 +227,27 @@ module _ (laws : TextLaws) (bytes : List ℕ) (document : Members) (n : Network)
       let (m, place, prefix) = its_place document n plan k q at in
       (k, q.seat, subst (λ (i : ℕ). IsPlace n k i q.seat) (prefixes_differ m p b (prefix ∙ ap (λ (x : Block). Some x) same) h) place)
 
+  -- ---- lists
+
+  listed_item : (l : ℕ) (b : Block) (h : IsListed n l b) → (at : ℕ × Data) × (slice_get (items_under (codes_of "only") 0 plan.links) h.number ≡ Some at) × IsListedOf h.item at
+  listed_item l b h = matched_left IsListedOf n.listed (items_under (codes_of "only") 0 plan.links) h.number h.item plan.listed h.listed
+
+  listed_is : (l : ℕ) (b : Block) → IsListed n l b → IsBlock b
+  listed_is l b h = let (at, is, of) = listed_item l b h in subst IsBlock h.prefix of.prefix.0
+
+  listed_known : (l : ℕ) (b : Block) → IsListed n l b → HasList n l
+  listed_known l b h =
+      let (at, is, of) = listed_item l b h in
+      let u = under_item (codes_of "only") LinkOnly 1 0 plan.links h.number at.0 at.1 is in
+      let (d, there, item) = u.item in
+      let (flag, stands, list) = matched_right IsListOf n.lists plan.links u.t d plan.lists there in
+      let number : u.t ≡ l = omega (arith, u.number, of.link, h.link) in
+      by_flag d u.j at.1 item flag list (subst (λ (t : ℕ). slice_get n.lists t ≡ Some flag) number stands)
+    where
+      by_flag : (d : Data) (j : ℕ) (x : Data) → slice_get (items_in (get (codes_of "only") d)) j ≡ Some x → (flag : Bool) → IsListOf flag d → slice_get n.lists l ≡ Some flag → HasList n l
+      by_flag d j x item true list at = at
+      by_flag d j x item false list at = absurd (none-some x (rw list at item))
+
   -- ---- places
 
   seat_known : (k p l : ℕ) → IsPlace n k p (seats.Link l) → l < length n.links
@@ -288,6 +309,12 @@ module _ (laws : TextLaws) (bytes : List ℕ) (document : Members) (n : Network)
       let s = also_spot 1 plan.routers k a at in
       not codes.Limit (RouterInterface (1 + s.n) (suc s.j)) (inr (k, grind arith, past)))
 
+  few_listed : length (listed_spots plan.links) ≤ 1024
+  few_listed =
+      few_spots (listed_spots plan.links) (λ k a at past.
+      let s = spot_under (codes_of "only") LinkOnly 1 plan.links k a at in
+      not codes.Limit (LinkOnly (1 + s.n) (suc s.j)) (k, at ∙ ap (λ (x : At). Some x) s.is, past))
+
   few_places : length (place_spots plan.links plan.routers) ≤ 1024
   few_places =
       few_spots (place_spots plan.links plan.routers)
@@ -317,10 +344,14 @@ module _ (laws : TextLaws) (bytes : List ℕ) (document : Members) (n : Network)
         few_interfaces = omega (arith, few_interfaces, interfaces_count document n plan);
         few_also = omega (arith, few_also, also_counted document n plan);
         few_places = omega (arith, few_places, places_count document n plan);
+        few_listed = omega (arith, few_listed, listed_count document n plan);
         link_named = names_good laws n.links plan.links plan.link_names (λ i bad. not codes.Name (Link i) bad);
         router_named = names_good laws n.routers plan.routers plan.router_names (λ r bad. not codes.Name (Router r) bad);
         link_names_differ = names_differ n.links plan.links plan.link_names (λ i bad. not codes.DuplicateName (Link i) bad);
         router_names_differ = names_differ n.routers plan.routers plan.router_names (λ r bad. not codes.DuplicateName (Router r) bad);
+        list_of_each = matched_length IsListOf n.lists plan.links plan.lists ∙ sym links;
+        listed_known = listed_known;
+        listed_is = listed_is;
         router_known = router_known;
         link_known = link_known;
         cost_least = λ i r l c h. (costs_good i r l c h).0;

@@ -12,6 +12,7 @@ pub mod HeldAddressLemmas
 pub mod LookupLemmas
 pub mod LeafRouterLemmas
 pub mod PlanAnswerLemmas
+pub mod PrefixNetworkLemmas
 pub mod MatchingLemmas
 pub mod TableLemmas
 pub mod DocumentTableLemmas

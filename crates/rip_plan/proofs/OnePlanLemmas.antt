@@ -1,15 +1,16 @@
 -- A document has one plan.
-use Rattle.std.proofs.Common.{◌≡◌, ℕ, ◌⊎◌, List, ◌++◌, map, Bool, Option, Some, None, refl, sym, ◌∙◌, ap, subst, arith}
+use Rattle.std.proofs.Common.{◌≡◌, ℕ, ◌⊎◌, List, ◌++◌, map, Bool, true, false, Option, Some, None, refl, sym, ◌∙◌, ap, subst, arith}
 use Rattle.std.specs.Prelude.{pos, codes as codes_of}
 use Rattle.std.proofs.lemmas.Option.{none-some, same_Some}
-use Rattle.toml.specs.Data.{Data, Members, string, boolean, integer, table, get}
+use Rattle.toml.specs.Data.{Data, Members, array, string, boolean, integer, table, get}
 use Rattle.rip_wire.specs.Prefix.{Block}
 use Rattle.rip_plan.specs.declared.limits.TheConstants.{DEFAULT_COST, DEFAULT_POISON}
 use Rattle.rip_plan.specs.declared.parts.Interface.{Interface}
+use Rattle.rip_plan.specs.declared.parts.Listed.{Listed}
 use Rattle.rip_plan.specs.declared.parts.Place.{Place}
 use Rattle.rip_plan.specs.Passes.{same_prefix}
 use Rattle.rip_plan.specs.Network.{Network}
-use Rattle.rip_plan.specs.PlanOf.{HasText, HasItems, IsAddressOf, AreAlsoOf, IsCostOf, IsDirectOf, IsFlagOf, IsGatewayOf, IsLinkOf, IsNameOf, items_in, IsInterfaceOf, Placement, IsOnLink, IsOwned, IsPlaceOf, each_once, PlanOf, IsFirstNamed}
+use Rattle.rip_plan.specs.PlanOf.{HasText, HasItems, IsAddressOf, AreAlsoOf, IsCostOf, IsDirectOf, IsFlagOf, IsGatewayOf, IsLinkOf, IsListOf, IsListedOf, IsNameOf, items_in, IsInterfaceOf, Placement, IsOnLink, IsOwned, IsPlaceOf, each_once, PlanOf, IsFirstNamed}
 use Rattle.rip_plan.proofs.ItemLemmas.{distinct_at}
 use Rattle.rip_plan.proofs.NumberingLemmas.{once_distinct, same_self}
 use Rattle.rip_plan.proofs.MatchingLemmas.{matched_same}
@@ -62,6 +63,15 @@ address_same laws a b d (t, h, is) (u, k, its) =
 also_same : (laws : TextLaws) (xs ys : List ℕ) (at : ℕ × Data) → AreAlsoOf xs at → AreAlsoOf ys at → xs ≡ ys
 also_same laws xs ys at h k = matched_same IsAddressOf IsAddressOf (address_same laws) xs ys (items_in (get (codes_of "also") at.1)) h k
 
+list_same : (b c : Bool) (d : Data) → IsListOf b d → IsListOf c d → b ≡ c
+list_same true true d h k = refl
+list_same true false d h k = absurd (none-some (array h.0) (sym k ∙ h.1))
+list_same false true d h k = absurd (none-some (array k.0) (sym h ∙ k.1))
+list_same false false d h k = refl
+
+listed_same : (laws : TextLaws) (x y : Listed) (at : ℕ × Data) → IsListedOf x at → IsListedOf y at → x ≡ y
+listed_same laws x y at h k = grind (arith, one_prefix)
+
 on_link_same : (laws : TextLaws) (x y : Placement) (at : ℕ × Data) → IsOnLink x at → IsOnLink y at → x ≡ y
 on_link_same laws x y at h k = grind (arith, one_prefix)
 
@@ -77,6 +87,8 @@ one_plan laws document n m p q =
     let router_tables : q.routers ≡ p.routers = items_same (codes_of "router") (table document) q.routers p.routers q.has_routers p.has_routers in
     let names : n.links ≡ m.links = matched_same IsNameOf IsNameOf (λ x y d h k. text_same (codes_of "name") d x y h k) _ _ _ p.link_names (rw link_tables at q.link_names) in
     let others : n.routers ≡ m.routers = matched_same IsNameOf IsNameOf (λ x y d h k. text_same (codes_of "name") d x y h k) _ _ _ p.router_names (rw router_tables at q.router_names) in
+    let lists : n.lists ≡ m.lists = matched_same IsListOf IsListOf list_same _ _ _ p.lists (rw link_tables at q.lists) in
+    let listed : n.listed ≡ m.listed = matched_same IsListedOf IsListedOf (listed_same laws) _ _ _ p.listed (rw link_tables at q.listed) in
     let poison : p.poison ≡ q.poison = flag_same (codes_of "poison") (table document) DEFAULT_POISON DEFAULT_POISON refl p.poison q.poison p.has_poison q.has_poison in
     let interfaces : n.interfaces ≡ m.interfaces =
     matched_same _ _ (interface_same laws n.links m.links names p.poison q.poison poison) _ _ _ p.interfaces (rw router_tables at q.interfaces) in
@@ -87,4 +99,4 @@ one_plan laws document n m p q =
     let prefixes : n.prefixes ≡ m.prefixes = p.prefixes ∙ ap (λ (ps : List Placement). each_once (map (λ (x : Placement). x.prefix) ps)) (sym placements) ∙ sym q.prefixes in
     let places : n.places ≡ m.places =
     matched_same _ _ (place_same n m (map (λ (x : Placement). x.prefix) (p.on_links ++ p.owned)) p.prefixes prefixes) _ _ _ p.places (rw placements at q.places) in
-    rw (← names, ← others, ← interfaces, ← also, ← prefixes, ← places) refl
+    rw (← names, ← lists, ← listed, ← others, ← interfaces, ← also, ← prefixes, ← places) refl

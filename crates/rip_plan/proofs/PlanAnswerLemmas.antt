@@ -1,19 +1,21 @@
 -- What a lawful plan answers from its look-ups.
 use Rattle.std.proofs.Common.{◌≡◌, ◌<◌, ◌≤◌, ◌↔◌, ◌⊎◌, inl, inr, arith, ℕ, Bool, true, false, Option, Some, None, List, [], ◌∷◌, length, refl, sym, ◌∙◌, ap, get_or}
-use Rattle.std.specs.Prelude.{option_and_then, unwrap_or, Decides, IfSome, slice_get}
+use Rattle.std.specs.Prelude.{◌==◌, option_and_then, unwrap_or, Decides, IfSome, slice_get}
 use Rattle.std.specs.List.{list_any, All}
 use Rattle.std.specs.Option.{is_some, option_map_or}
-use Rattle.std.proofs.lemmas.Bool.{or_cases, or_left, or_right}
+use Rattle.std.proofs.lemmas.Bool.{and_parts, both_ways, eq-eqb, eqb-true, or_cases, or_left, or_right}
 use Rattle.std.proofs.lemmas.Option.{none-some, slice_get_within, slice_get-get_or}
-use Rattle.rip_plan.proofs.ItemLemmas.{cases_option}
+use Rattle.rip_plan.proofs.ItemLemmas.{any_at, any_finds, cases_option}
+use Rattle.rip_plan.proofs.NumberingLemmas.{same_is, same_self}
 use Rattle.rip_wire.specs.Prefix.{Block}
 use Rattle.rip_plan.specs.declared.parts.OwnPrefix.{OwnPrefix}
 use Rattle.rip_plan.specs.declared.parts.Place.{Place}
 use Rattle.rip_plan.specs.declared.parts.Seat.{Seat}
 use Rattle.rip_plan.specs.declared.parts.Seat.TheVariants as seats
 use Rattle.rip_plan.specs.Seats.{gateway_of, is_kept, link_of}
-use Rattle.rip_plan.specs.Network.{Network, own_seat, direct_at, first_carrying, found_at, number_of_prefix}
-use Rattle.rip_plan.specs.Relations.{IsAt, IsAttached, IsGateway, IsKept, IsOwnWith, IsPrefix, IsDirect, Touches, Carries, IsLawful}
+use Rattle.rip_plan.specs.Network.{Network, own_seat, direct_at, first_carrying, found_at, is_item, number_of_prefix}
+use Rattle.rip_plan.specs.Passes.{same_prefix}
+use Rattle.rip_plan.specs.Relations.{Exchanges, HasList, IsAt, IsAttached, IsGateway, IsKept, IsOwnWith, IsPrefix, IsDirect, IsListed, Touches, Carries, IsLawful}
 use Rattle.rip_plan.proofs.LookupLemmas.{interface_of, prefix_of_number, number_of_planned, HasOwnSeat, own_says, own_gives, own_finds, direct_gives, direct_finds, carrier_gives, carrier_finds, found_gives, found_finds}
 use Rattle.rip_plan.specs.Rows.{IsLinkBelow, IsOwnerBelow}
 
@@ -173,3 +175,31 @@ module _ (n : Network) (laws : IsLawful n) where
       by_seat : (seat : Seat) → slice_get n.places k ≡ Some (record { prefix = (get_or n.places k d).prefix; seat = seat }) → IsOwnerBelow (length n.routers) seat
       by_seat (seats.Link l) e = tt
       by_seat (seats.Own own) e = laws.owner_known k (get_or n.places k d).prefix own.router own.cost (record { own = own; place = record { listed = e }; router = refl; says = refl })
+
+-- ---- lists
+
+pub listed_exact : (n : Network) (l : ℕ) (p : Block) (b : Bool) → b ≡ list_any (is_item l p) n.listed → Decides b (IsListed n l p)
+listed_exact n l p b e = (
+  λ h.
+      let (k, x, at, test) = any_finds (is_item l p) n.listed (sym e ∙ h) in
+      let (link, prefix) = and_parts (x.link == l) (same_prefix x.prefix p) test in
+      record { number = k; item = x; listed = at; link = eqb-true x.link l link; prefix = same_is x.prefix p prefix },
+  λ h. e ∙ any_at (is_item l p) n.listed h.number h.item h.listed (rw (h.link, h.prefix) (rw (eq-eqb l l refl, same_self p) refl)),
+)
+
+pub lists_exact : (n : Network) (b : Bool) → b ≡ list_any (λ x. x) n.lists → Decides b ((l : ℕ) × HasList n l)
+lists_exact n b e = (
+  λ h. let (l, x, at, test) = any_finds (λ (x : Bool). x) n.lists (sym e ∙ h) in (l, at ∙ ap (λ (x : Bool). Some x) test),
+  λ (l, has). e ∙ any_at (λ (x : Bool). x) n.lists l true has refl,
+)
+
+pub exchanges_exact : (n : Network) → IsLawful n → (l : ℕ) (p : Block) (b : Bool) → HasList n l → (IsListed n l p → ⊥) → ((k : ℕ) → IsPrefix n k p → Decides b (Carries n l k)) → (((k : ℕ) → IsPrefix n k p → ⊥) → b ≡ false)
+    → Decides b (Exchanges n l p)
+exchanges_exact n laws l p b has none planned unplanned = (
+  λ h.
+      elim (cases_option (number_of_prefix p n.prefixes)) [
+        | inl e ↦ absurd (both_ways b (unplanned (λ k is. none-some k (sym e ∙ number_of_planned n laws p k is))) h)
+        | inr (k, e) ↦ let is = prefix_of_number n p k e in inr (inr (k, is, (planned k is).0 h))
+      ],
+  λ x. elim x [ inl free ↦ absurd (free has) | inr (inl is) ↦ absurd (none is) | inr (inr (k, is, on)) ↦ (planned k is).1 on ],
+)

@@ -1,14 +1,15 @@
 -- A plan that was read is matched item by item with the document, and each item stands where the document has it.
-use Rattle.std.proofs.Common.{◌≡◌, ℕ, ◌+◌, ◌-◌, List, [], ◌∷◌, ◌++◌, map, append_assoc, Bool, Some, Ok, refl, sym, ◌∙◌, ap, subst, arith, length, ◌≤◌, false, not, ◌||◌}
-use Rattle.std.specs.Prelude.{nat_le, nat_lt, unwrap_or, codes as codes_of}
+use Rattle.std.proofs.Common.{◌≡◌, ℕ, ◌+◌, ◌-◌, List, [], ◌∷◌, ◌++◌, map, append_assoc, Bool, Some, Ok, refl, sym, ◌∙◌, ap, subst, arith, length, ◌≤◌, true, false, not, ◌||◌, Option, None}
+use Rattle.std.specs.Prelude.{is_some, nat_le, nat_lt, unwrap_or, codes as codes_of}
 use Rattle.std.proofs.lemmas.List.{append-nil, length-map, map-append}
 use Rattle.toml.specs.Data.{Data, Members, as_str, as_table, get, get_member}
 use Rattle.rip_wire.specs.Prefix.{Block, prefix_in}
 use Rattle.rip_plan.specs.declared.draft.DraftInterface.{DraftInterface}
 use Rattle.rip_plan.specs.declared.draft.DraftPlace.{DraftPlace}
 use Rattle.rip_plan.specs.declared.parts.Interface.{Interface}
+use Rattle.rip_plan.specs.declared.parts.Listed.{Listed}
 use Rattle.rip_plan.specs.declared.parts.Seat.TheVariants as seats
-use Rattle.rip_plan.specs.declared.error.At.TheVariants.{Text, Version, Link, LinkPrefix, Router, RouterInterface, RouterOwn}
+use Rattle.rip_plan.specs.declared.error.At.TheVariants.{Text, Version, Link, LinkOnly, LinkPrefix, Router, RouterInterface, RouterOwn}
 use Rattle.rip_plan.specs.declared.error.PlanCode.TheVariants as codes
 use Rattle.rip_plan.specs.declared.parts.OwnPrefix.{OwnPrefix}
 use Rattle.rip_wire.specs.Address.{address_in}
@@ -17,10 +18,10 @@ use Rattle.rip_plan.specs.Names.{is_one_of, number_of_name}
 use Rattle.rip_plan.specs.Passes.{second_passes}
 use Rattle.rip_plan.specs.Fault.{fault, ◌>>=◌, steps}
 use Rattle.rip_plan.specs.Fields.{◌&>◌, link_fields, interface_fields, own_fields, router_fields, root_fields, cost_of, direct_of, addresses_in, address_if, link_if, is_version}
-use Rattle.rip_plan.specs.Draft.{Sketch, prefix_step, link_step, interface_step, own_step, router_step, is_outside, is_full, with_interface, with_place}
+use Rattle.rip_plan.specs.Draft.{Sketch, prefix_step, link_step, listed_step, interface_step, own_step, router_step, is_outside, is_full, with_interface, with_link, with_place}
 use Rattle.rip_plan.specs.PlanText.{empty, document_of, sketch_of_document, sketch_of}
 use Rattle.rip_plan.specs.Network.{Network, network_in, network_of_sketch}
-use Rattle.rip_plan.specs.PlanOf.{Matched, IsAddressOf, AreAlsoOf, IsNameOf, items_under, IsInterfaceOf, Placement, IsOnLink, IsOwned, IsPlaceOf, each_once, PlanOf, IsPlanOfText}
+use Rattle.rip_plan.specs.PlanOf.{Matched, IsAddressOf, AreAlsoOf, IsListOf, IsListedOf, IsNameOf, items_under, IsInterfaceOf, Placement, IsOnLink, IsOwned, IsPlaceOf, each_once, PlanOf, IsPlanOfText}
 use Rattle.rip_plan.proofs.NumberingLemmas.{numbered_once, IsNumbered, numbers}
 use Rattle.rip_plan.proofs.MatchingLemmas.{matched_append, matched_seen}
 use Rattle.rip_plan.proofs.SpotLemmas.{with_number}
@@ -48,10 +49,7 @@ interface_ats is = map (λ (i : DraftInterface). i.at) is
 pub stood : {A : Type 0} (see : A → At) (xs : List A) (spots : List At) → map see xs ≡ spots → length xs ≡ length spots
 stood see xs spots h = sym (length-map xs see) ∙ ap length h
 
--- the draft with one more name, or place
-abbrev pub with_link : List ℕ → Sketch → Sketch
-with_link name s = record s { links = s.links ++ name ∷ [] }
-
+-- the draft with one more router
 abbrev pub with_router : List ℕ → Sketch → Sketch
 with_router name s = record s { routers = s.routers ++ name ∷ [] }
 
@@ -93,13 +91,41 @@ prefixes_added laws i j (x ∷ xs) s t h =
       stand = ap (λ (spots : List At). LinkPrefix i j ∷ spots) rest.stand;
     }
 
+-- ---- the list of a link
+
+pub record ListAdded (i : ℕ) (xs : List Data) (s t : Sketch) : Type 0 where
+  pub added : List Listed
+  pub made : t ≡ record s { listed = s.listed ++ added }
+  pub match : Matched IsListedOf added (map (with_number (i - 1)) xs)
+
+pub list_added : (laws : TextLaws) (i j : ℕ) (xs : List Data) (s t : Sketch) → steps (listed_step i) j xs s ≡ Ok t → ListAdded i xs s t
+unfolding listed_step
+list_added laws i j [] s t h = record { added = []; made = rw (append-nil s.listed) (sym (ok_same s t h)); match = tt }
+list_added laws i j (x ∷ xs) s t h =
+    let (u, first, others) = bind_ok (listed_step i j x s) (steps (listed_step i) (j + 1) xs) t h in
+    let (text, is, h1) = wanted_ok (fault codes.Key (LinkOnly i j)) (as_str x) _ u first in
+    let (prefix, parsed, h2) = wanted_ok (fault codes.Prefix (LinkOnly i j)) (prefix_in text) _ u h1 in
+    let (room, h3) = guard_ok (nat_le 1024 (length s.listed)) (fault codes.Limit (LinkOnly i j)) _ u h2 in
+    let new : Listed = record { link = i - 1; prefix = prefix } in
+    let made : u ≡ record s { listed = s.listed ++ new ∷ [] } = sym (ok_same _ u h3) in
+    let rest = list_added laws i (j + 1) xs u t others in
+    record {
+      added = new ∷ rest.added;
+      made = rw (← append_assoc s.listed (new ∷ []) rest.added) (rest.made ∙ ap (λ (v : Sketch). record v { listed = v.listed ++ rest.added }) made);
+      match = (record { text = text; is_text = text_is x text is; prefix = prefix_is laws text prefix parsed; link = refl }, rest.match);
+    }
+
 -- ---- links
 
 pub record LinksAdded (k : ℕ) (xs : List Data) (s t : Sketch) : Type 0 where
   pub names : List (List ℕ)
+  pub lists : List Bool
+  pub listed : List Listed
   pub added : List DraftPlace
-  pub made : t ≡ record s { links = s.links ++ names; places = s.places ++ added }
+  pub made : t ≡ record s { links = s.links ++ names; lists = s.lists ++ lists; listed = s.listed ++ listed; places = s.places ++ added }
   pub named : Matched IsNameOf names xs
+  pub has_lists : Matched IsListOf lists xs
+  pub in_lists : Matched IsListedOf listed (items_under (codes_of "only") k xs)
   pub placed : Matched IsOnLink (map placement added) (items_under (codes_of "prefixes") k xs)
   pub stand : place_ats added ≡ spots_under (codes_of "prefixes") LinkPrefix (k + 1) xs
 
@@ -107,27 +133,39 @@ pub links_added : (laws : TextLaws) (k : ℕ) (xs : List Data) (s t : Sketch) �
 unfolding link_step
 links_added laws k [] s t h = record {
   names = [];
+  lists = [];
+  listed = [];
   added = [];
-  made = rw (append-nil s.links, append-nil s.places) (sym (ok_same s t h));
+  made = rw (append-nil s.links, append-nil s.lists, append-nil s.listed, append-nil s.places) (sym (ok_same s t h));
   named = tt;
+  has_lists = tt;
+  in_lists = tt;
   placed = tt;
   stand = refl;
 }
 links_added laws k (x ∷ xs) s t h =
     let (u, first, others) = bind_ok (link_step (k + 1) x s) (steps link_step (k + 1 + 1) xs) t h in
     let (f, fields_read, h1) = wanted_ok (fault codes.Key (Link (k + 1))) (as_table x &> link_fields) _ u first in
-    let (good, h2) = guard_ok (not (is_name f.0)) (fault codes.Name (Link (k + 1))) _ u h1 in
-    let (fresh, h3) = guard_ok (is_one_of f.0 s.links) (fault codes.DuplicateName (Link (k + 1))) _ u h2 in
-    let fields = link_table x f.0 f.1 fields_read in
-    let inner = prefixes_added laws (k + 1) 1 f.1 (with_link f.0 s) u h3 in
+    let (good, h2) = guard_ok (not (is_name f.name)) (fault codes.Name (Link (k + 1))) _ u h1 in
+    let (fresh, h3) = guard_ok (is_one_of f.name s.links) (fault codes.DuplicateName (Link (k + 1))) _ u h2 in
+    let start = with_link f.name (is_some f.only) s in
+    let (v, one, two) = bind_ok (steps (prefix_step (k + 1)) 1 f.prefixes start) (steps (listed_step (k + 1)) 1 (unwrap_or f.only [])) u h3 in
+    let fields = link_table x f fields_read in
+    let inner = prefixes_added laws (k + 1) 1 f.prefixes start v one in
+    let list = list_added laws (k + 1) 1 (unwrap_or f.only []) v u two in
     let rest = links_added laws (k + 1) xs u t others in
+    let here : u ≡ record s { links = s.links ++ f.name ∷ []; lists = s.lists ++ is_some f.only ∷ []; listed = s.listed ++ list.added; places = s.places ++ inner.added } = grind arith in
     record {
-      names = f.0 ∷ rest.names;
+      names = f.name ∷ rest.names;
+      lists = is_some f.only ∷ rest.lists;
+      listed = list.added ++ rest.listed;
       added = inner.added ++ rest.added;
       made = grind (arith, append_assoc);
       named = (fields.named, rest.named);
+      has_lists = (fields.has_list, rest.has_lists);
+      in_lists = rw fields.only_are (matched_append IsListedOf list.added rest.listed (map (with_number k) (unwrap_or f.only [])) (items_under (codes_of "only") (k + 1) xs) (rw (back k) at list.match) rest.in_lists);
       placed = rw (map-append placement inner.added rest.added, fields.prefixes_are)
-          (matched_append IsOnLink (map placement inner.added) (map placement rest.added) (map (with_number k) f.1) (items_under (codes_of "prefixes") (k + 1) xs) (rw (back k) at inner.match)
+          (matched_append IsOnLink (map placement inner.added) (map placement rest.added) (map (with_number k) f.prefixes) (items_under (codes_of "prefixes") (k + 1) xs) (rw (back k) at inner.match)
           rest.placed);
       stand = rw (map-append (λ (p : DraftPlace). p.at) inner.added rest.added, fields.prefixes_are, inner.stand, rest.stand) refl;
     }
@@ -313,6 +351,8 @@ places_match s =
 -- these tables were read, in the words of the document
 pub record TablesRead (links routers : List Data) (poison : Bool) (s : Sketch) : Type 0 where
   pub link_names : Matched IsNameOf s.links links
+  pub has_lists : Matched IsListOf s.lists links
+  pub in_lists : Matched IsListedOf s.listed (items_under (codes_of "only") 0 links)
   pub router_names : Matched IsNameOf s.routers routers
   pub interfaces : Matched (IsInterfaceOf s.links poison) (map its_interface s.interfaces) (items_under (codes_of "interface") 0 routers)
   pub also : Matched AreAlsoOf s.also (items_under (codes_of "interface") 0 routers)
@@ -330,11 +370,13 @@ pub tables_read : (laws : TextLaws) (links routers : List Data) (poison : Bool) 
 tables_read laws links routers poison between s first second =
     let read = links_added laws 0 links (empty poison) between first in
     let more = routers_added laws 0 routers between s second in
-    let start : Sketch = record { links = read.names; routers = []; poison = poison; interfaces = []; also = []; places = read.added } in
+    let start : Sketch = record { links = read.names; lists = read.lists; listed = read.listed; routers = []; poison = poison; interfaces = []; also = []; places = read.added } in
     let made : s ≡ record start { routers = more.names; interfaces = more.interfaces; also = more.also; places = read.added ++ more.owned } = grind arith in
     let few : sum_by length more.also ≤ 1024 = grind (arith, more.few) in
     subst (TablesRead links routers poison) (sym made) (record {
       link_names = read.named;
+      has_lists = read.has_lists;
+      in_lists = read.in_lists;
       router_names = more.named;
       interfaces = subst (λ (v : Sketch). Matched (IsInterfaceOf v.links v.poison) (map its_interface more.interfaces) (items_under (codes_of "interface") 0 routers)) read.made more.on_links;
       also = more.further;
@@ -357,6 +399,8 @@ document_matches laws doc links routers poison s is read =
       links = links;
       has_links = root.has_links;
       link_names = read.link_names;
+      lists = read.has_lists;
+      listed = read.in_lists;
       routers = routers;
       has_routers = root.has_routers;
       router_names = read.router_names;

@@ -12,7 +12,7 @@ use Rattle.rip_plan.specs.declared.parts.Interface.{Interface}
 use Rattle.rip_plan.specs.declared.parts.OwnPrefix.{OwnPrefix}
 use Rattle.rip_plan.specs.declared.parts.Seat.TheVariants as seats
 use Rattle.rip_plan.specs.Network.{Network}
-use Rattle.rip_plan.specs.PlanFaults.{HasPrefix, IsItem, IsNamedAgain, IsOutside, NamesNoLink, also_spots, interface_spots, nth, place_spots, spots_under}
+use Rattle.rip_plan.specs.PlanFaults.{HasPrefix, IsItem, IsNamedAgain, IsOutside, NamesNoLink, also_spots, interface_spots, listed_spots, nth, place_spots, spots_under}
 use Rattle.rip_plan.specs.PlanOf.{AreAlsoOf, HasText, IsLinkOf, IsAddressOf, IsInterfaceOf, IsNameOf, IsOnLink, IsOwned, IsPlaceOf, Matched, Placement, PlanOf, items_in, items_under}
 use Rattle.rip_plan.specs.Relations.{Carries, IsPlace, IsPrefix}
 use Rattle.rip_plan.specs.Texts.{IsAddressText, IsPrefixText}
@@ -121,6 +121,9 @@ prefix_place links on_links link_prefixes l p (k, text, at, parsed) = grind (ari
 module _ (document : Members) (n : Network) (plan : PlanOf document n) where
   pub places_count : length n.places ≡ length (place_spots plan.links plan.routers)
   places_count = grind (arith, matched_length, length-append, spots_count)
+
+  pub listed_count : length n.listed ≡ length (listed_spots plan.links)
+  listed_count = grind (arith, matched_length, spots_count)
 
   pub interfaces_count : length n.interfaces ≡ length (interface_spots plan.routers)
   interfaces_count = grind (arith, matched_length, spots_count)

@@ -5,9 +5,9 @@ use Rattle.std.proofs.lemmas.Option.{none-some, same_Some, slice_get_within}
 use Rattle.std.proofs.lemmas.List.{length-map}
 use Rattle.toml.specs.Data.{Data, get}
 use Rattle.rip_plan.specs.declared.error.At.{At}
-use Rattle.rip_plan.specs.declared.error.At.TheVariants.{LinkPrefix, RouterInterface, RouterOwn}
+use Rattle.rip_plan.specs.declared.error.At.TheVariants.{LinkOnly, LinkPrefix, RouterInterface, RouterOwn}
 use Rattle.rip_plan.specs.PlanOf.{items_in, items_under}
-use Rattle.rip_plan.specs.PlanFaults.{nth, IsItem, spots_of, spots_under, place_spots, interface_spots, position, Before, also_spots, also_spots_from, also_spots_of}
+use Rattle.rip_plan.specs.PlanFaults.{nth, IsItem, spots_of, spots_under, place_spots, interface_spots, listed_spots, position, Before, also_spots, also_spots_from, also_spots_of}
 use Rattle.rip_plan.proofs.ItemLemmas.{get_split, get_left, get_past, get_seen, get_some, see_got}
 use Rattle.rip_plan.proofs.FlatLemmas.{ahead_front, flat, in_flat, in_order, is_in, same_ahead, same_length}
 use Rattle.rip_plan.proofs.FindingLemmas.{before_not}
@@ -148,6 +148,9 @@ place_once links routers k m a h g = spot_once (place_spots links routers) (plac
 pub interface_once : (routers : List Data) (k m : ℕ) (a : At) → slice_get (interface_spots routers) k ≡ Some a → slice_get (interface_spots routers) m ≡ Some a → k ≡ m
 interface_once routers k m a h g = spot_once (interface_spots routers) (interface_ahead routers) k m a h g
 
+pub listed_once : (links : List Data) (k m : ℕ) (a : At) → slice_get (listed_spots links) k ≡ Some a → slice_get (listed_spots links) m ≡ Some a → k ≡ m
+listed_once links k m a h g = spot_once (listed_spots links) (under_ahead (codes_of "only") LinkOnly (ordered LinkOnly 1 2 (λ i j. refl)) 1 links) k m a h g
+
 -- ---- the item of a spot
 
 pub item_of : (key : List ℕ) (ds : List Data) (n j : ℕ) (x : Data) → IsItem key ds (suc n) (suc j) x → (i m : ℕ) → i ≡ 1 + n → m ≡ suc j → IsItem key ds i m x
@@ -173,6 +176,11 @@ own_item links routers k i j h =
       | inl s ↦ let same : RouterOwn i j ≡ LinkPrefix (1 + s.n) (suc s.j) = s.is in absurd cc
       | inr s ↦ let same : RouterOwn i j ≡ RouterOwn (1 + s.n) (suc s.j) = s.is in (s.x, item_of (codes_of "own") routers s.n s.j s.x s.item i j (cc) (cc))
     ]
+
+pub listed_item : (links : List Data) (k i j : ℕ) → slice_get (listed_spots links) k ≡ Some (LinkOnly i j) → (x : Data) × IsItem (codes_of "only") links i j x
+listed_item links k i j h =
+    let s = spot_under (codes_of "only") LinkOnly 1 links k (LinkOnly i j) h in
+    (s.x, item_of (codes_of "only") links s.n s.j s.x s.item i j (cc) (cc))
 
 pub interface_item : (routers : List Data) (k i j : ℕ) → slice_get (interface_spots routers) k ≡ Some (RouterInterface i j) → (x : Data) × IsItem (codes_of "interface") routers i j x
 interface_item routers k i j h =

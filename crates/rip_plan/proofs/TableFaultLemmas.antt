@@ -1,6 +1,6 @@
 -- What is found of the faults of a document's links and of its routers.
 use Rattle.std.proofs.Common.{◌≡◌, ℕ, zero, suc, ◌+◌, ◌<◌, ◌≤◌, inl, inr, List, [], ◌∷◌, ◌++◌, length, Bool, true, false, not, Some, Ok, refl, sym, ap, subst, ◌∙◌, arith, length-append, ◌-◌, ◌⊎◌, ◌&&◌, Option, None, Result}
-use Rattle.std.specs.Prelude.{slice_get, nat_le, codes as codes_of, map}
+use Rattle.std.specs.Prelude.{is_some, slice_get, nat_le, codes as codes_of, map, unwrap_or}
 use Rattle.std.specs.Str.{bytes_eq}
 use Rattle.std.proofs.lemmas.Bool.{both_ways, leb-true, not-false, not-true, cases_Bool, and_parts}
 use Rattle.std.proofs.lemmas.Option.{none-some, same_Some, slice_get_within}
@@ -8,22 +8,22 @@ use Rattle.std.proofs.lemmas.Bool.Decides.{nat_tests}
 use Rattle.std.proofs.lemmas.Slice.Eq.{bytes_eq-Decides}
 use Rattle.std.specs.List.{sum_by}
 use Rattle.std.proofs.lemmas.List.Sums.{sum_by-append}
-use Rattle.std.proofs.lemmas.List.{map-append}
+use Rattle.std.proofs.lemmas.List.{length-map, map-append}
 use Rattle.toml.specs.Data.{Data, Members, string, get, as_str, as_table}
 use Rattle.rip_wire.specs.Name.{is_name}
 use Rattle.rip_wire.specs.Prefix.{prefix_in, Block}
 use Rattle.rip_wire.specs.Address.{address_in}
 use Rattle.rip_plan.specs.declared.error.PlanCode.TheVariants as codes
 use Rattle.rip_plan.specs.declared.error.At.{At}
-use Rattle.rip_plan.specs.declared.error.At.TheVariants.{Link, LinkPrefix, Router, RouterInterface, RouterOwn}
+use Rattle.rip_plan.specs.declared.error.At.TheVariants.{Link, LinkOnly, LinkPrefix, Router, RouterInterface, RouterOwn}
 use Rattle.rip_plan.specs.declared.draft.DraftPlace.{DraftPlace}
 use Rattle.rip_plan.specs.Fault.{steps}
 use Rattle.rip_plan.specs.Fields.{◌&>◌, link_fields, InterfaceFields, interface_fields, own_fields, router_fields, cost_of, direct_of, addresses_in, address_if, link_if}
 use Rattle.rip_plan.specs.Names.{is_one_of, number_of_name}
-use Rattle.rip_plan.specs.Draft.{Sketch, prefix_step, link_step, interface_step, own_step, router_step, is_full, is_outside, has_address}
-use Rattle.rip_plan.specs.PlanOf.{HasText, Matched, IsNameOf, items_in, items_under, Placement}
+use Rattle.rip_plan.specs.Draft.{Sketch, prefix_step, link_step, listed_step, interface_step, own_step, router_step, is_full, is_outside, has_address, with_link}
+use Rattle.rip_plan.specs.PlanOf.{HasText, Matched, IsListedOf, IsNameOf, items_in, items_under, Placement}
 use Rattle.rip_plan.specs.PlanText.{empty}
-use Rattle.rip_plan.specs.PlanFaults.{nth, IsItem, IsMisnamed, IsNamedAgain, spots_of, spots_under, place_spots, IsPast, NamesNoLink, IsOutside, HasNoAddress, HasPrefix, HasWrongAlso, HasWrongCost, HasWrongDirect, interface_spots, also_spots}
+use Rattle.rip_plan.specs.PlanFaults.{nth, IsItem, IsMisnamed, IsNamedAgain, spots_of, spots_under, place_spots, IsPast, NamesNoLink, IsOutside, HasNoAddress, HasPrefix, HasWrongAlso, HasWrongCost, HasWrongDirect, interface_spots, also_spots, listed_spots}
 use Rattle.rip_plan.specs.Texts.{IsNoPrefix, IsPrefixText, IsAddressText}
 use Rattle.rip_plan.specs.DocumentTables.{IsLinkTable, IsString, IsRouterTable, IsInterfaceTable, IsOwnTable}
 use Rattle.rip_plan.specs.declared.error.PlanError.{PlanError}
@@ -31,13 +31,13 @@ use Rattle.rip_plan.specs.declared.draft.DraftInterface.{DraftInterface}
 use Rattle.rip_plan.specs.declared.parts.Seat.TheVariants as seats
 use Rattle.rip_plan.specs.Seats.{is_on}
 use Rattle.rip_plan.proofs.FindingLemmas.{Asks, Each, Finds, ask_both, ask_guard, ask_rest, ask_wanted, bind_finds, row_at, steps_finds}
-use Rattle.rip_plan.proofs.FaultRowLemmas.{IsTold, asked_at, rest_at, turn_at, item_stands, prefix_rows, prefix_starts, link_rows, link_starts, link_within, links_rows, interface_rows, interface_starts, own_rows, own_starts, interfaces_sooner, router_rows, router_starts, router_within, routers_rows}
-use Rattle.rip_plan.proofs.SpotLemmas.{nth_from, place_once, prefix_here, nth_here, item_once, count_of, also_here, also_in, also_items, also_under, also_within, with_number, interface_once, own_here, under_here}
+use Rattle.rip_plan.proofs.FaultRowLemmas.{IsTold, asked_at, rest_at, turn_at, item_stands, listed_rows, listed_starts, prefix_rows, prefix_starts, prefixes_sooner, link_rows, link_starts, link_within, links_rows, interface_rows, interface_starts, own_rows, own_starts, interfaces_sooner, router_rows, router_starts, router_within, routers_rows}
+use Rattle.rip_plan.proofs.SpotLemmas.{listed_once, nth_from, place_once, spots_count, prefix_here, nth_here, item_once, count_of, also_here, also_in, also_items, also_under, also_within, with_number, interface_once, own_here, under_here}
 use Rattle.rip_plan.proofs.ItemLemmas.{any_at, any_finds, get_split, get_left, position_none, get_seen, see_got}
 use Rattle.rip_plan.proofs.TableLemmas.{text_is, IsTextIf, addresses_told, addresses_clear, cost_fits, gateway_fits, gateway_is, link_is, map_none, cost_is, cost_within, cost_told, direct_told, gateway_told, IsReadOf, addresses_read}
 use Rattle.rip_plan.proofs.MatchingLemmas.{matched_left, matched_right, matched_length}
 use Rattle.rip_plan.proofs.OnePlanLemmas.{text_same}
-use Rattle.rip_plan.proofs.PlanMatchLemmas.{with_link, links_added, prefixes_added, stood, TablesRead, room_for, with_router, placement, interfaces_added, owns_added, tables_read}
+use Rattle.rip_plan.proofs.PlanMatchLemmas.{links_added, list_added, prefixes_added, stood, TablesRead, room_for, with_router, placement, interfaces_added, owns_added, tables_read}
 use Rattle.rip_plan.proofs.LookupLemmas.{name_same, on_seat}
 use Rattle.rip_plan.proofs.TextLemmas.{TextLaws, prefix_is, no_prefix, first_named, address_is, no_address, one_prefix}
 use Rattle.rip_plan.proofs.DocumentTableLemmas.{link_not, link_table, string_not, HasInterfaceFields, interface_not, interface_texts, own_not, own_texts, router_not, router_table}
@@ -72,8 +72,9 @@ stand_before see at all before added spots front made stand here =
     omega (arith, ap length made, length-append before added, stood see before spots stand, stood see added (spots_of at 1 front) here, count_of at 1 front)
 
 -- a place that stands at a number below the limit is not past it
-not_past : (links routers : List Data) (n : ℕ) (at : At) → slice_get (place_spots links routers) n ≡ Some at → nat_le 1024 n ≡ false → IsPast 1024 (place_spots links routers) at → ⊥
-not_past links routers n at here free (k, there, most) = let same : k ≡ n = place_once links routers k n at there here in grind (arith, nat_tests)
+not_past : (spots : List At) → ((k m : ℕ) (a : At) → slice_get spots k ≡ Some a → slice_get spots m ≡ Some a → k ≡ m) → (n : ℕ) (at : At) → slice_get spots n ≡ Some at → nat_le 1024 n ≡ false
+    → IsPast 1024 spots at → ⊥
+not_past spots once n at here free (k, there, most) = let same : k ≡ n = once k n at there here in grind (arith, nat_tests)
 
 -- ---- names
 
@@ -125,26 +126,70 @@ module _ (document : Members) (links routers done : List Data) (d : Data) (rest 
       h.2 p (subst (λ (t : List ℕ). IsPrefixText t p) one (prefix_is laws text p parsed)))
       (λ p parsed.
       ask_guard (nat_le 1024 (length v.places)) _ (λ full. (length v.places, here, leb-true 1024 (length v.places) full))
-      (λ free h. not_past links routers (length v.places) (LinkPrefix (1 + length done) (1 + length front)) here free h)
+      (λ free h. not_past (place_spots links routers) (place_once links routers) (length v.places) (LinkPrefix (1 + length done) (1 + length front)) here free h)
       (λ free. ask_rest (λ o h f. h))))
     where
       here : slice_get (place_spots links routers) (length v.places) ≡ Some (LinkPrefix (1 + length done) (1 + length front))
       here = rw split (prefix_here routers done d rest front x back items (length v.places) count)
 
-  prefixes_find : (laws : TextLaws) (poison : Bool) (u : Sketch) (name : List ℕ) → steps link_step 1 done (empty poison) ≡ Ok u → (all : List Data) → items_in (get (codes_of "prefixes") d) ≡ all
-      → Finds (IsTold document links routers) (Each (prefix_rows (1 + length done)) 1) (steps (prefix_step (1 + length done)) 1 all (with_link name u))
-  prefixes_find laws poison u name taken all items =
+  prefixes_find : (laws : TextLaws) (poison : Bool) (u : Sketch) (name : List ℕ) (has_list : Bool) → steps link_step 1 done (empty poison) ≡ Ok u → (all : List Data)
+      → items_in (get (codes_of "prefixes") d) ≡ all
+      → Finds (IsTold document links routers) (Each (prefix_rows (1 + length done)) 1) (steps (prefix_step (1 + length done)) 1 all (with_link name has_list u))
+  prefixes_find laws poison u name has_list taken all items =
       let i : ℕ = 1 + length done in
-      steps_finds (IsTold document links routers) (prefix_step i) (prefix_rows i) (0 ∷ 1 ∷ i ∷ 1 ∷ []) (prefix_starts i) all (with_link name u)
+      steps_finds (IsTold document links routers) (prefix_step i) (prefix_rows i) (0 ∷ 1 ∷ i ∷ 1 ∷ []) (prefix_starts i) all (with_link name has_list u)
       (λ front x back v parts steps_taken.
       let before = links_added laws 0 done (empty poison) u taken in
-      let inner = prefixes_added laws i 1 front (with_link name u) v steps_taken in
+      let inner = prefixes_added laws i 1 front (with_link name has_list u) v steps_taken in
       let places : v.places ≡ before.added ++ inner.added = ap (λ (t : Sketch). t.places) inner.made ∙ ap (λ (t : Sketch). t.places ++ inner.added) before.made in
       let count = stand_before (λ (p : DraftPlace). p.at) (LinkPrefix i) v.places before.added inner.added (stood_links done) front places before.stand inner.stand in
       (prefix_asks laws front x back v (items ∙ parts) count).finds (turn_at (LinkPrefix i (1 + length front))))
       (λ m o past row f.
       none_past links done d rest split (codes_of "prefixes") all items m past
       (item_stands document links routers (LinkPrefix i m) o (λ n. n) (prefix_starts i m o row).0 f row))
+
+  -- ---- and its list
+
+  listed_asks : (laws : TextLaws) (front : List Data) (x : Data) (back : List Data) (v : Sketch) → items_in (get (codes_of "only") d) ≡ front ++ x ∷ back
+      → length v.listed ≡ length (listed_spots done) + length front
+      → Asks (IsTold document links routers) (asked_at (LinkOnly (1 + length done) (1 + length front))) (λ o. ⊥) (listed_step (1 + length done) (1 + length front) x v)
+  unfolding listed_step
+  listed_asks laws front x back v items count =
+      let (item, of_x) = item_at links done d rest split (codes_of "only") front x back items in
+      ask_wanted (as_str x) _ (λ none. (x, item, string_not x none)) (λ text is h. of_x (λ y. IsString y → ⊥) h (text, text_is x text is)) (λ text is.
+      ask_wanted (prefix_in text) _ (λ none. (text, subst (IsItem (codes_of "only") links (1 + length done) (1 + length front)) (text_is x text is) item, no_prefix laws text none))
+      (λ p parsed h.
+      let same : string h.0 ≡ string text = item_once (codes_of "only") links (1 + length done) (1 + length front) (string h.0) x h.1 item ∙ text_is x text is in
+      let one : text ≡ h.0 = cc in
+      h.2 p (subst (λ (t : List ℕ). IsPrefixText t p) one (prefix_is laws text p parsed)))
+      (λ p parsed.
+      ask_guard (nat_le 1024 (length v.listed)) _ (λ full. (length v.listed, here, leb-true 1024 (length v.listed) full))
+      (λ free h. not_past (listed_spots links) (listed_once links) (length v.listed) (LinkOnly (1 + length done) (1 + length front)) here free h)
+      (λ free. ask_rest (λ o h f. h))))
+    where
+      here : slice_get (listed_spots links) (length v.listed) ≡ Some (LinkOnly (1 + length done) (1 + length front))
+      here = rw split (under_here (codes_of "only") LinkOnly 1 done d rest front x back items (length v.listed) count)
+
+  lists_find : (laws : TextLaws) (poison : Bool) (u : Sketch) (name : List ℕ) (has_list : Bool) (prefixes : List Data) (w : Sketch) → steps link_step 1 done (empty poison) ≡ Ok u
+      → steps (prefix_step (1 + length done)) 1 prefixes (with_link name has_list u) ≡ Ok w → (all : List Data) → items_in (get (codes_of "only") d) ≡ all
+      → Finds (IsTold document links routers) (Each (listed_rows (1 + length done)) 1) (steps (listed_step (1 + length done)) 1 all w)
+  lists_find laws poison u name has_list prefixes w taken between all items =
+      let i : ℕ = 1 + length done in
+      steps_finds (IsTold document links routers) (listed_step i) (listed_rows i) (0 ∷ 1 ∷ i ∷ 2 ∷ []) (listed_starts i) all w
+      (λ front x back v parts steps_taken.
+      let before = links_added laws 0 done (empty poison) u taken in
+      let left = prefixes_added laws i 1 prefixes (with_link name has_list u) w between in
+      let inner = list_added laws i 1 front w v steps_taken in
+      let listed : v.listed ≡ before.listed ++ inner.added =
+      ap (λ (t : Sketch). t.listed) inner.made ∙ ap (λ (t : Sketch). t.listed ++ inner.added) left.made ∙ ap (λ (t : Sketch). t.listed ++ inner.added) before.made in
+      let stood : length before.listed ≡ length (listed_spots done) =
+      matched_length IsListedOf before.listed (items_under (codes_of "only") 0 done) before.in_lists ∙ sym (spots_count (codes_of "only") LinkOnly 1 0 done) in
+      let fronts = matched_length IsListedOf inner.added (map (with_number (i - 1)) front) inner.match in
+      (listed_asks laws front x back v (items ∙ parts)
+      (omega (arith, ap length listed, length-append before.listed inner.added, stood, fronts, length-map front (with_number (i - 1))))).finds (turn_at (LinkOnly i (1 + length front))))
+      (λ m o past row f.
+      none_past links done d rest split (codes_of "only") all items m past
+      (item_stands document links routers (LinkOnly i m) o (λ n. n) (listed_starts i m o row).0 f row))
 
   link_asks : (laws : TextLaws) (poison : Bool) (u : Sketch) → steps link_step 1 done (empty poison) ≡ Ok u
       → Asks (IsTold document links routers) (asked_at (Link (1 + length done))) (rest_at (Link (1 + length done))) (link_step (1 + length done) d u)
@@ -154,15 +199,21 @@ module _ (document : Members) (links routers done : List Data) (d : Data) (rest 
       let names : u.links ≡ added.names = ap (λ (v : Sketch). v.links) added.made in
       let named : Matched IsNameOf u.links done = subst (λ (l : List (List ℕ)). Matched IsNameOf l done) (sym names) added.named in
       ask_wanted (as_table d &> link_fields) _ (λ none. (d, table_here links done d rest split, link_not d none))
-      (λ f is h. h.2 (subst IsLinkTable (sym (table_same links done d rest split h.0 h.1)) (link_table d f.0 f.1 is).shape))
+      (λ f is h. h.2 (subst IsLinkTable (sym (table_same links done d rest split h.0 h.1)) (link_table d f is).shape))
       (λ f is.
-      let table = link_table d f.0 f.1 is in
-      ask_guard (not (is_name f.0)) _ (λ bad. misnamed_told laws links done d rest split f.0 table.named bad)
-      (λ good h. misnamed_clear laws links done d rest split f.0 table.named good h)
+      let table = link_table d f is in
+      ask_guard (not (is_name f.name)) _ (λ bad. misnamed_told laws links done d rest split f.name table.named bad)
+      (λ good h. misnamed_clear laws links done d rest split f.name table.named good h)
       (λ good.
-      ask_guard (is_one_of f.0 u.links) _ (λ again. again_told laws links done d rest split u.links named f.0 table.named again)
-      (λ fresh h. again_clear laws links done d rest split u.links named f.0 table.named fresh h)
-      (λ fresh. ask_rest (prefixes_find laws poison u f.0 taken f.1 table.prefixes_are))))
+      ask_guard (is_one_of f.name u.links) _ (λ again. again_told laws links done d rest split u.links named f.name table.named again)
+      (λ fresh h. again_clear laws links done d rest split u.links named f.name table.named fresh h)
+      (λ fresh.
+      let i : ℕ = 1 + length done in
+      let has_list = is_some f.only in
+      let items = unwrap_or f.only [] in
+      ask_rest (bind_finds (IsTold document links routers) (Each (prefix_rows i) 1) (Each (listed_rows i) 1) (steps (prefix_step i) 1 f.prefixes (with_link f.name has_list u)) (steps (listed_step i) 1 items)
+      (prefixes_sooner i) (prefixes_find laws poison u f.name has_list taken f.prefixes table.prefixes_are)
+      (λ w between. lists_find laws poison u f.name has_list f.prefixes w taken between items table.only_are)))))
 
 pub links_find : (laws : TextLaws) (document : Members) (links routers : List Data) (poison : Bool) → Finds (IsTold document links routers) links_rows (steps link_step 1 links (empty poison))
 links_find laws document links routers poison =
@@ -216,7 +267,7 @@ module _ (document : Members) (links routers done : List Data) (d : Data) (rest 
       (λ l known h. attached_not v.links links named x l (link_is v.links x f.link l fields.link known) (of_x (NamesNoLink links) h))
       (λ l known.
       ask_guard (nat_le 1024 (length v.places)) _ (λ full. (length v.places, here, leb-true 1024 (length v.places) full))
-      (λ free h. not_past links routers (length v.places) (RouterOwn (1 + length done) (1 + length front)) here free h)
+      (λ free h. not_past (place_spots links routers) (place_once links routers) (length v.places) (RouterOwn (1 + length done) (1 + length front)) here free h)
       (λ free. ask_rest (λ o h g. h)))))))
     where
       here : slice_get (place_spots links routers) (length v.places) ≡ Some (RouterOwn (1 + length done) (1 + length front))

@@ -10,7 +10,7 @@ use Rattle.rip_plan.specs.declared.error.PlanCode.{PlanCode}
 use Rattle.rip_plan.specs.declared.error.PlanCode.TheVariants as codes
 use Rattle.rip_plan.specs.declared.error.PlanError.{PlanError}
 use Rattle.rip_plan.specs.declared.error.At.{At}
-use Rattle.rip_plan.specs.declared.error.At.TheVariants.{Text, Version, Link, LinkPrefix, Router, RouterInterface, RouterOwn}
+use Rattle.rip_plan.specs.declared.error.At.TheVariants.{Text, Version, Link, LinkOnly, LinkPrefix, Router, RouterInterface, RouterOwn}
 use Rattle.rip_plan.specs.Answers.{first_fault}
 use Rattle.rip_plan.specs.Codes.{number_of_code}
 use Rattle.rip_plan.specs.Draft.{Sketch, link_step, router_step}
@@ -227,7 +227,7 @@ error_from : List ℕ → PlanError
 error_from (pass ∷ part ∷ i ∷ group ∷ j ∷ code ∷ []) =
     fault (code_from code)
     (cond (part == 0) (cond (code == 2) Version Text) (
-    cond (part == 1) (cond (group == 0) (Link i) (LinkPrefix i j)) (
+    cond (part == 1) (cond (group == 0) (Link i) (cond (group == 1) (LinkPrefix i j) (LinkOnly i j))) (
     cond (group == 0) (Router i) (cond (group == 1) (RouterInterface i j) (RouterOwn i j)))))
 error_from ns = fault codes.Memory Text
 

@@ -11,12 +11,12 @@ use Rattle.rip_plan.specs.declared.error.PlanCode.{PlanCode}
 use Rattle.rip_plan.specs.declared.error.PlanCode.TheVariants as codes
 use Rattle.rip_plan.specs.declared.error.PlanError.{PlanError}
 use Rattle.rip_plan.specs.declared.error.At.{At}
-use Rattle.rip_plan.specs.declared.error.At.TheVariants.{Text, Version, Link, LinkPrefix, Router, RouterInterface, RouterOwn}
+use Rattle.rip_plan.specs.declared.error.At.TheVariants.{Text, Version, Link, LinkOnly, LinkPrefix, Router, RouterInterface, RouterOwn}
 use Rattle.rip_plan.specs.Fault.{fault}
 use Rattle.rip_plan.specs.Fields.{interface_fields, is_version, link_fields, own_fields, router_fields}
 use Rattle.rip_plan.specs.Network.{Network}
-use Rattle.rip_plan.specs.PlanFaults.{AreTwice, AstrayAt, DoMeet, FaultAt, HasNoAddress, HasOneTwice, HasTables, HasWrongAlso, HasWrongCost, HasWrongDirect, HaveOneAddress, IsAstray, IsBare, IsClash, IsFault, IsItem, IsNamedAgain, IsOutside, IsPast, IsSo, IsText, TableFault, also_spots, interface_spots, nth, place_spots}
-use Rattle.rip_plan.specs.PlanOf.{AreAlsoOf, IsAddressOf, IsNameOf, IsOnLink, IsPlanOfText, Matched, PlanOf, items_under}
+use Rattle.rip_plan.specs.PlanFaults.{AreTwice, AstrayAt, DoMeet, FaultAt, HasNoAddress, HasOneTwice, HasTables, HasWrongAlso, HasWrongCost, HasWrongDirect, HaveOneAddress, IsAstray, IsBare, IsClash, IsFault, IsItem, IsNamedAgain, IsOutside, IsPast, IsSo, IsText, TableFault, also_spots, interface_spots, listed_spots, nth, place_spots}
+use Rattle.rip_plan.specs.PlanOf.{AreAlsoOf, IsAddressOf, IsListedOf, IsNameOf, IsOnLink, IsPlanOfText, Matched, PlanOf, items_under}
 use Rattle.rip_plan.specs.Relations.{HasOwnAddress, IsConnected, IsInterface, IsLawful, IsOwnAt, IsPlace}
 use Rattle.rip_plan.specs.WellFormed.{IsWellFormed}
 use Rattle.rip_plan.proofs.SpotLemmas.{also_items, under_item}
@@ -25,7 +25,7 @@ use Rattle.rip_plan.proofs.ItemLemmas.{get_left, get_past}
 use Rattle.rip_plan.proofs.MatchingLemmas.{matched_length, matched_right}
 use Rattle.rip_plan.proofs.OnePlanLemmas.{one_plan, text_same}
 use Rattle.rip_plan.proofs.TableLemmas.{cost_fits, direct_fits, gateway_fits}
-use Rattle.rip_plan.proofs.PlanPartLemmas.{attached_not, inside_not, known_not, HasInterface, HasOwn, also_counted, carrier_has, prefix_place, interfaces_count, item_under, its_interface, its_own, its_place, names_good, places_count}
+use Rattle.rip_plan.proofs.PlanPartLemmas.{attached_not, inside_not, known_not, HasInterface, HasOwn, also_counted, carrier_has, prefix_place, interfaces_count, item_under, its_interface, its_own, its_place, names_good, listed_count, places_count}
 use Rattle.rip_plan.proofs.TextFaultLemmas.{one_astray, one_fault, same_document, version_is, version_told, whole_fault}
 use Rattle.rip_plan.proofs.TextLemmas.{TextLaws}
 use Rattle.rip_plan.specs.Texts.{IsAddressText, IsPrefixText}
@@ -127,6 +127,15 @@ module _ (laws : TextLaws) (bytes : List ℕ) (w : IsWellFormed bytes) where
       let u = item_under (codes_of "prefixes") w.plan.links i j x item in
       grind (arith, matched_right IsOnLink w.plan.on_links (items_under (codes_of "prefixes") 0 w.plan.links) u.k (u.m, x) w.plan.link_prefixes u.at)
 
+  -- and of an item of a list
+  its_listed : (i j : ℕ) (x : Data) → IsItem (codes_of "only") w.plan.links i j x → (text : List ℕ) × (x ≡ string text) × ((p : Block) × IsPrefixText text p)
+  its_listed i j x item =
+      let u = item_under (codes_of "only") w.plan.links i j x item in
+      grind (arith, matched_right IsListedOf w.network.listed (items_under (codes_of "only") 0 w.plan.links) u.k (u.m, x) w.plan.listed u.at)
+
+  few_listed : length (listed_spots w.plan.links) ≤ 1024
+  few_listed = let few : length w.network.listed ≤ 1024 = w.lawful.few_listed in omega (arith, listed_count w.document w.network w.plan)
+
   address_told : (r j : ℕ) (x : Data) → IsItem (codes_of "interface") w.plan.routers r j x → HasNoAddress (codes_of "address") x ⊎ HasWrongAlso x → ⊥
   address_told r j x item (inl (text, has, none)) =
       let h = its_interface w.document w.network w.plan r j x item in
@@ -146,6 +155,11 @@ module _ (laws : TextLaws) (bytes : List ℕ) (w : IsWellFormed bytes) where
       let (other, is, (p, parsed)) = its_text i j (string text) item in
       grind (arith, none p)
   table_not codes.Limit (LinkPrefix i j) f = past_not (place_spots w.plan.links w.plan.routers) (LinkPrefix i j) few_places f
+  table_not codes.Key (LinkOnly i j) f = let (text, is, parsed) = its_listed i j f.0 f.1 in f.2 (text, is)
+  table_not codes.Prefix (LinkOnly i j) (text, item, none) =
+      let (other, is, (p, parsed)) = its_listed i j (string text) item in
+      grind (arith, none p)
+  table_not codes.Limit (LinkOnly i j) f = past_not (listed_spots w.plan.links) (LinkOnly i j) few_listed f
   table_not codes.Key (Router r) f = has_fields IsRouterTable w.plan.routers r f.0 w.router_tables f.1 f.2
   table_not codes.Name (Router r) (d, name, at, its, bad) = bad (misnamed_not w.network.routers w.plan.routers w.plan.router_names IsName w.lawful.router_named r name d at its)
   table_not codes.DuplicateName (Router r) f = again_not w.network.routers w.plan.routers w.plan.router_names w.lawful.router_names_differ r f
@@ -231,7 +245,7 @@ faultless_plan bytes n none is lawful =
       plan = plan;
       root = by_root is.document (λ lacks. none (fault codes.Key Text) (0, inl ((is.document, text, lacks), refl)));
       link_tables = all_from IsLinkTable plan.links (λ k d at.
-          by_table IsLinkTable link_fields (λ e f h. (link_table e f.0 f.1 h).shape) d (λ lacks. no_fault (Link (suc k)) (d, at, lacks)) (link_not d));
+          by_table IsLinkTable link_fields (λ e f h. (link_table e f h).shape) d (λ lacks. no_fault (Link (suc k)) (d, at, lacks)) (link_not d));
       router_tables = all_from IsRouterTable plan.routers (λ k d at.
           by_table IsRouterTable router_fields (λ e f h. (router_table e f.0 f.1 f.2 h).shape) d (λ lacks. no_fault (Router (suc k)) (d, at, lacks)) (router_not d));
       interface_tables = all_from (λ (at : ℕ × Data). IsInterfaceTable at.1) (items_under (codes_of "interface") 0 plan.routers) (λ k d at.

@@ -57,6 +57,7 @@ pub record IsLinkTable (d : Data) : Type 0 where
   pub keys : HasOnly (keys_of a_link) d
   pub name : Has (codes "name") d IsString
   pub prefixes : Has (codes "prefixes") d IsList
+  pub only : MayHave (codes "only") d IsList
 
 pub record IsRouterTable (d : Data) : Type 0 where
   pub members : Members

@@ -1,5 +1,5 @@
 -- What was read of a plan so far, and each step of the first pass over its text.
-use Rattle.std.specs.Prelude.{◌≡◌, ℕ, ◌+◌, ◌-◌, ◌/◌, List, [], ◌∷◌, ◌++◌, length, map, Bool, ◌&&◌, ◌||◌, not, ◌==◌, nat_le, nat_lt, Result, Ok, Err, if◌then◌else◌, string_bytes, unwrap_or}
+use Rattle.std.specs.Prelude.{◌≡◌, ℕ, ◌+◌, ◌-◌, ◌/◌, List, [], ◌∷◌, ◌++◌, length, map, Bool, ◌&&◌, ◌||◌, not, ◌==◌, nat_le, nat_lt, Result, Ok, Err, if◌then◌else◌, is_some, string_bytes, unwrap_or}
 use Rattle.std.specs.List.{list_any, sum_by}
 use Rattle.toml.specs.Data.{Data, as_str, as_table}
 use Rattle.rip_wire.specs.Address.{address_in}
@@ -8,12 +8,13 @@ use Rattle.rip_wire.specs.Prefix.{Block, prefix_in, size_of}
 use Rattle.rip_plan.specs.declared.error.PlanCode.TheVariants as codes
 use Rattle.rip_plan.specs.declared.error.PlanError.{PlanError}
 use Rattle.rip_plan.specs.declared.error.At.{At}
-use Rattle.rip_plan.specs.declared.error.At.TheVariants.{Link, LinkPrefix, Router, RouterInterface, RouterOwn}
+use Rattle.rip_plan.specs.declared.error.At.TheVariants.{Link, LinkOnly, LinkPrefix, Router, RouterInterface, RouterOwn}
 use Rattle.rip_plan.specs.declared.error.ReadError.{ReadError}
 use Rattle.rip_plan.specs.declared.draft.Draft.{Draft}
 use Rattle.rip_plan.specs.declared.draft.DraftInterface.{DraftInterface}
 use Rattle.rip_plan.specs.declared.draft.DraftPlace.{DraftPlace}
-use Rattle.rip_plan.specs.declared.limits.TheConstants.{MOST_ALSO, MOST_INTERFACES, MOST_PLACES}
+use Rattle.rip_plan.specs.declared.limits.TheConstants.{MOST_ALSO, MOST_INTERFACES, MOST_LISTED, MOST_PLACES}
+use Rattle.rip_plan.specs.declared.parts.Listed.{Listed}
 use Rattle.rip_plan.specs.declared.parts.Seat.{Seat}
 use Rattle.rip_plan.specs.declared.parts.Seat.TheVariants as seats
 use Rattle.rip_plan.specs.Names.{is_one_of, number_of_name}
@@ -21,11 +22,13 @@ use Rattle.rip_plan.specs.Seats.{is_on}
 use Rattle.rip_plan.specs.Fault.{fault, ◌>>=◌, wanted, steps, Fails}
 use Rattle.rip_plan.specs.Fields.{◌&>◌, link_fields, interface_fields, own_fields, router_fields, cost_of, direct_of, addresses_in, address_if, link_if}
 
--- what was read: names, whether interfaces poison that do not say it, interfaces with the further
--- addresses of each, and places of prefixes; interfaces and places with where they stand in the
--- text
+-- what was read: names, whether each link has a list and what stands in the lists, whether
+-- interfaces poison that do not say it, interfaces with the further addresses of each, and places
+-- of prefixes; interfaces and places with where they stand in the text
 pub record Sketch : Type 0 where
   pub links : List (List ℕ)
+  pub lists : List Bool
+  pub listed : List Listed
   pub routers : List (List ℕ)
   pub poison : Bool
   pub interfaces : List DraftInterface
@@ -35,6 +38,8 @@ pub record Sketch : Type 0 where
 abbrev pub sketch : Draft → Sketch
 sketch d = record {
   links = map string_bytes d.links.items;
+  lists = d.lists.items;
+  listed = d.listed.items;
   routers = map string_bytes d.routers.items;
   poison = d.poison;
   interfaces = d.interfaces.items;
@@ -64,13 +69,27 @@ prefix_step i j d s =
     wanted (fault codes.Prefix (LinkPrefix i j)) (prefix_in text) >>= (λ prefix.
     with_place (LinkPrefix i j) prefix (seats.Link (i - 1)) s))
 
+-- one more link, which has a list or none
+abbrev pub with_link : List ℕ → Bool → Sketch → Sketch
+with_link name has_list s =
+    record s { links = s.links ++ name ∷ []; lists = s.lists ++ has_list ∷ [] }
+
+-- prefix j in the list of link i
+unfoldable pub listed_step : ℕ → ℕ → Data → Sketch → Result Sketch PlanError
+listed_step i j d s =
+    wanted (fault codes.Key (LinkOnly i j)) (as_str d) >>= (λ text.
+    wanted (fault codes.Prefix (LinkOnly i j)) (prefix_in text) >>= (λ prefix.
+    if nat_le MOST_LISTED (length s.listed) then Err (fault codes.Limit (LinkOnly i j))
+    else Ok (record s { listed = s.listed ++ record { link = i - 1; prefix = prefix } ∷ [] })))
+
 -- link i
 unfoldable pub link_step : ℕ → Data → Sketch → Result Sketch PlanError
 link_step i d s =
     wanted (fault codes.Key (Link i)) (as_table d &> link_fields) >>= (λ f.
-    if not (is_name f.0) then Err (fault codes.Name (Link i))
-    else if is_one_of f.0 s.links then Err (fault codes.DuplicateName (Link i))
-    else steps (prefix_step i) 1 f.1 (record s { links = s.links ++ f.0 ∷ [] }))
+    if not (is_name f.name) then Err (fault codes.Name (Link i))
+    else if is_one_of f.name s.links then Err (fault codes.DuplicateName (Link i))
+    else steps (prefix_step i) 1 f.prefixes (with_link f.name (is_some f.only) s)
+    >>= steps (listed_step i) 1 (unwrap_or f.only []))
 
 -- the prefix contains the address
 abbrev pub has_address : Block → ℕ → Bool

@@ -42,13 +42,25 @@ abbrev pub flag_if : Option Data → Option (Option Bool)
 flag_if None = Some None
 flag_if (Some d) = option_map Some (as_bool d)
 
--- the name and the prefixes of a link's table
-unfoldable pub link_fields : Members → Option (List ℕ × List Data)
+-- nothing, the items of a list, or a value of another kind
+abbrev pub list_given : Option Data → Option (Option (List Data))
+list_given None = Some None
+list_given (Some d) = option_map (λ items. Some (list_of items)) (as_array d)
+
+-- what a link's table gives
+pub record LinkFields : Type 0 where
+  pub name : List ℕ
+  pub prefixes : List Data
+  pub only : Option (List Data)
+
+-- the name and the prefixes of a link's table, and its list, if it has one
+unfoldable pub link_fields : Members → Option LinkFields
 link_fields ms =
     if has_only (keys_of a_link) ms then
     (text_at (codes "name") ms &> (λ name.
     items_at (codes "prefixes") ms &> (λ prefixes.
-    Some (name, prefixes))))
+    list_given (get_member (codes "only") ms) &> (λ only.
+    Some (record { name = name; prefixes = prefixes; only = only })))))
     else None
 
 -- a list of texts

@@ -1,10 +1,18 @@
 -- What the code reads from tables, as the definitions have it.
-use Rattle.std.specs.Prelude.{map}
+use Rattle.std.specs.Prelude.{map, option_map}
 use Rattle.std.specs.Option.{option_copied}
 use Rattle.toml.specs.View.{view}
 use Rattle.rip_plan.specs.declared.fields.InterfaceFields.{InterfaceFields as GivenInterface}
+use Rattle.rip_plan.specs.declared.fields.LinkFields.{LinkFields as GivenLink}
 use Rattle.rip_plan.specs.declared.fields.OwnFields.{OwnFields as GivenOwn}
-use Rattle.rip_plan.specs.Fields.{InterfaceFields, OwnFields}
+use Rattle.rip_plan.specs.Fields.{InterfaceFields, LinkFields, OwnFields}
+
+abbrev pub seen_link : GivenLink → LinkFields
+seen_link f = record {
+  name = f.name.now;
+  prefixes = map view f.prefixes.now;
+  only = option_map (λ v. map view v.now) f.only;
+}
 
 abbrev pub seen_interface : GivenInterface → InterfaceFields
 seen_interface f = record {

@@ -2,10 +2,11 @@
 use Rattle.std.specs.Prelude.{◌≡◌, ℕ, ◌*◌, List, length, map, string_bytes}
 use Rattle.std.specs.List.{list_any}
 use Rattle.std.specs.HashMap.{get, get_by_text}
+use Rattle.std.specs.HashSet.{contains}
 use Rattle.rip_wire.specs.Prefix.{Block}
 use Rattle.rip_plan.specs.Addresses.{holder_at}
 use Rattle.rip_plan.specs.Names.{number_of_name}
-use Rattle.rip_plan.specs.Network.{Network, addresses_of, each_below, is_of, is_on, number_of_prefix, numbers_where, pair_eq}
+use Rattle.rip_plan.specs.Network.{Network, addresses_of, each_below, is_item, is_of, is_on, number_of_prefix, numbers_where, pair_eq, same_item}
 use Rattle.rip_plan.specs.Passes.{same_prefix}
 use Rattle.rip_plan.specs.Relations.{IsLawful}
 use Rattle.rip_plan.specs.Seats.{is_kept}
@@ -15,6 +16,8 @@ use Rattle.rip_plan.specs.declared.plan.Plan.TheInside.{Inside}
 abbrev pub network_of : Inside → Network
 network_of p = record {
   links = map string_bytes p.links.items;
+  lists = p.lists.items;
+  listed = p.listed.items;
   routers = map string_bytes p.routers.items;
   interfaces = p.interfaces.items;
   also = map (λ w. w.items) p.also.items;
@@ -48,5 +51,8 @@ pub record IsIndexed (plan : Inside) : Type 0 where
       ≡ length plan.routers.items * length plan.prefixes.items
   pub owners : AreOwners (length plan.prefixes.items) plan.places.items plan.owners.items
   pub any_kept : plan.any_kept ≡ list_any (λ q. is_kept q.seat) plan.places.items
+  pub exchanged : (l : ℕ) (b : Block) →
+      contains same_item plan.exchanged (l, b) ≡ list_any (is_item l b) plan.listed.items
+  pub any_list : plan.any_list ≡ list_any (λ has_list. has_list) plan.lists.items
   pub addresses : (l a : ℕ) →
       get pair_eq plan.addresses (l, a) ≡ holder_at l a (addresses_of (network_of plan))

@@ -13,6 +13,7 @@ pub mod Touches
 pub mod Network
 pub mod Answers
 pub mod Relations
+pub mod PrefixNetworks
 pub mod Texts
 pub mod DocumentTables
 pub mod Rows

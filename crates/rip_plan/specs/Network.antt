@@ -1,5 +1,5 @@
--- What a plan is: its links and routers by their names, its interfaces, and its prefixes with their
--- places.
+-- What a plan is: its links and routers by their names, whether each link has a list of what it
+-- exchanges and what stands in the lists, its interfaces, and its prefixes with their places.
 use Rattle.std.specs.Prelude.{ℕ, zero, suc, ◌+◌, Bool, if◌then◌else◌, option_and_then, ◌&&◌, ◌==◌, List, [], ◌∷◌, ◌++◌, length, map, find, Option, Some, None, option_map, Result, Ok}
 use Rattle.std.specs.List.{position_from}
 use Rattle.std.specs.Option.{option_or}
@@ -7,6 +7,7 @@ use Rattle.rip_wire.specs.Prefix.{Block}
 use Rattle.rip_plan.specs.declared.addresses.Held.{Held}
 use Rattle.rip_plan.specs.declared.error.PlanError.{PlanError}
 use Rattle.rip_plan.specs.declared.parts.Interface.{Interface}
+use Rattle.rip_plan.specs.declared.parts.Listed.{Listed}
 use Rattle.rip_plan.specs.declared.parts.Place.{Place}
 use Rattle.rip_plan.specs.declared.parts.Seat.{Seat}
 use Rattle.rip_plan.specs.declared.parts.Seat.TheVariants as seats
@@ -21,6 +22,8 @@ use Rattle.rip_plan.specs.PlanText.{sketch_of}
 
 pub record Network : Type 0 where
   pub links : List (List ℕ)
+  pub lists : List Bool
+  pub listed : List Listed
   pub routers : List (List ℕ)
   pub interfaces : List Interface
   pub also : List (List ℕ)
@@ -56,6 +59,8 @@ network_of_sketch s =
     let both = numbered [] [] s.places in
     record {
       links = s.links;
+      lists = s.lists;
+      listed = s.listed;
       routers = s.routers;
       interfaces = map (λ i. i.interface) s.interfaces;
       also = s.also;
@@ -72,6 +77,14 @@ network_in bytes = sketch_of bytes >>= (λ s. Ok (network_of_sketch s))
 -- both parts of two pairs are equal
 abbrev pub pair_eq : ℕ × ℕ → ℕ × ℕ → Bool
 pair_eq p q = p.0 == q.0 && p.1 == q.1
+
+-- a link and a prefix are these
+abbrev pub same_item : ℕ × Block → ℕ × Block → Bool
+same_item p q = p.0 == q.0 && same_prefix p.1 q.1
+
+-- the prefix in the list of the link
+abbrev pub is_item : ℕ → Block → Listed → Bool
+is_item l b x = x.link == l && same_prefix x.prefix b
 
 -- the addresses of all interfaces
 abbrev pub addresses_of : Network → List Held

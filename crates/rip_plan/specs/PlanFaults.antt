@@ -8,8 +8,8 @@ use Rattle.rip_plan.specs.declared.error.PlanCode.{PlanCode}
 use Rattle.rip_plan.specs.declared.error.PlanCode.TheVariants as codes
 use Rattle.rip_plan.specs.declared.error.PlanError.{PlanError}
 use Rattle.rip_plan.specs.declared.error.At.{At}
-use Rattle.rip_plan.specs.declared.error.At.TheVariants.{Text, Version, Link, LinkPrefix, Router, RouterInterface, RouterOwn}
-use Rattle.rip_plan.specs.declared.limits.TheConstants.{MOST_ALSO, MOST_COST, MOST_INTERFACES, MOST_LINKS, MOST_PLACES, MOST_PLAN_BYTES, MOST_ROUTERS}
+use Rattle.rip_plan.specs.declared.error.At.TheVariants.{Text, Version, Link, LinkOnly, LinkPrefix, Router, RouterInterface, RouterOwn}
+use Rattle.rip_plan.specs.declared.limits.TheConstants.{MOST_ALSO, MOST_COST, MOST_INTERFACES, MOST_LINKS, MOST_LISTED, MOST_PLACES, MOST_PLAN_BYTES, MOST_ROUTERS}
 use Rattle.rip_plan.specs.declared.parts.Seat.TheVariants as seats
 use Rattle.rip_plan.specs.Codes.{number_of_code}
 use Rattle.rip_plan.specs.DocumentTables.{IsInterfaceTable, IsLinkTable, IsOwnTable, IsRoot, IsRouterTable, IsString}
@@ -58,6 +58,10 @@ abbrev pub place_spots : List Data → List Data → List At
 place_spots links routers =
     spots_under (codes "prefixes") LinkPrefix 1 links
     ++ spots_under (codes "own") RouterOwn 1 routers
+
+-- where what stands in the lists of links stands
+abbrev pub listed_spots : List Data → List At
+listed_spots links = spots_under (codes "only") LinkOnly 1 links
 
 abbrev pub interface_spots : List Data → List At
 interface_spots routers = spots_under (codes "interface") RouterInterface 1 routers
@@ -205,6 +209,12 @@ TableFault document links routers codes.Prefix (LinkPrefix i j) =
     (text : List ℕ) × IsItem (codes "prefixes") links i j (string text) × IsNoPrefix text
 TableFault document links routers codes.Limit (LinkPrefix i j) =
     IsPast MOST_PLACES (place_spots links routers) (LinkPrefix i j)
+TableFault document links routers codes.Key (LinkOnly i j) =
+    (d : Data) × IsItem (codes "only") links i j d × (IsString d → ⊥)
+TableFault document links routers codes.Prefix (LinkOnly i j) =
+    (text : List ℕ) × IsItem (codes "only") links i j (string text) × IsNoPrefix text
+TableFault document links routers codes.Limit (LinkOnly i j) =
+    IsPast MOST_LISTED (listed_spots links) (LinkOnly i j)
 TableFault document links routers codes.Key (Router r) =
     (d : Data) × (nth routers r ≡ Some d) × (IsRouterTable d → ⊥)
 TableFault document links routers codes.Name (Router r) = IsMisnamed routers r
@@ -294,6 +304,7 @@ position Text = 0 ∷ 0 ∷ 0 ∷ 0 ∷ []
 position Version = 0 ∷ 0 ∷ 0 ∷ 0 ∷ []
 position (Link i) = 1 ∷ i ∷ 0 ∷ 0 ∷ []
 position (LinkPrefix i j) = 1 ∷ i ∷ 1 ∷ j ∷ []
+position (LinkOnly i j) = 1 ∷ i ∷ 2 ∷ j ∷ []
 position (Router r) = 2 ∷ r ∷ 0 ∷ 0 ∷ []
 position (RouterInterface r j) = 2 ∷ r ∷ 1 ∷ j ∷ []
 position (RouterOwn r j) = 2 ∷ r ∷ 2 ∷ j ∷ []

@@ -1,10 +1,11 @@
 -- What it is for a network to be the plan of a document: each list is matched item by item with the
 -- document's tables.
-use Rattle.std.specs.Prelude.{◌≡◌, ◌⊎◌, ℕ, ◌+◌, ◌≤◌, pos, List, [], ◌∷◌, ◌++◌, map, filter, Bool, not, codes, Option, None, Some, slice_get}
+use Rattle.std.specs.Prelude.{◌≡◌, ◌⊎◌, ℕ, ◌+◌, ◌≤◌, pos, List, [], ◌∷◌, ◌++◌, map, filter, Bool, true, false, not, codes, Option, None, Some, slice_get}
 use Rattle.toml.specs.Data.{Data, Items, Members, string, boolean, integer, array, table, get}
 use Rattle.rip_wire.specs.Prefix.{Block}
 use Rattle.rip_plan.specs.declared.limits.TheConstants.{DEFAULT_COST, DEFAULT_KEPT, DEFAULT_POISON}
 use Rattle.rip_plan.specs.declared.parts.Interface.{Interface}
+use Rattle.rip_plan.specs.declared.parts.Listed.{Listed}
 use Rattle.rip_plan.specs.declared.parts.OwnPrefix.{OwnPrefix}
 use Rattle.rip_plan.specs.declared.parts.Place.{Place}
 use Rattle.rip_plan.specs.declared.parts.Seat.{Seat}
@@ -129,6 +130,22 @@ pub record IsOnLink (p : Placement) (at : ℕ × Data) : Type 0 where
   pub prefix : IsPrefixText text p.prefix
   pub seat : p.seat ≡ seats.Link at.0
 
+-- a list is given here, or nothing is
+abbrev pub IsListGiven : Option Data → Bool → Type 0
+IsListGiven value true = (items : Items) × (value ≡ Some (array items))
+IsListGiven value false = value ≡ None
+
+-- whether the table has a list of what its link exchanges
+abbrev pub IsListOf : Bool → Data → Type 0
+IsListOf has_list d = IsListGiven (get (codes "only") d) has_list
+
+-- the prefix of this text, in the list of the link of this number
+pub record IsListedOf (x : Listed) (at : ℕ × Data) : Type 0 where
+  pub text : List ℕ
+  pub is_text : at.1 ≡ string text
+  pub prefix : IsPrefixText text x.prefix
+  pub link : x.link ≡ at.0
+
 -- the own prefix of this table, with the router of this number
 pub record IsOwned (links : List (List ℕ)) (p : Placement) (at : ℕ × Data) : Type 0 where
   pub text : List ℕ
@@ -158,6 +175,8 @@ pub record PlanOf (document : Members) (n : Network) : Type 0 where
   pub links : List Data
   pub has_links : HasItems (codes "link") (table document) links
   pub link_names : Matched IsNameOf n.links links
+  pub lists : Matched IsListOf n.lists links
+  pub listed : Matched IsListedOf n.listed (items_under (codes "only") 0 links)
   pub routers : List Data
   pub has_routers : HasItems (codes "router") (table document) routers
   pub router_names : Matched IsNameOf n.routers routers

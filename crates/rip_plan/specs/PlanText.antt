@@ -16,6 +16,8 @@ use Rattle.rip_plan.specs.Passes.{second_passes}
 abbrev pub empty : Bool → Sketch
 empty poison = record {
   links = [];
+  lists = [];
+  listed = [];
   routers = [];
   poison = poison;
   interfaces = [];

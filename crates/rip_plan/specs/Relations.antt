@@ -3,8 +3,9 @@
 use Rattle.std.specs.Prelude.{◌≡◌, ◌≢◌, ℕ, ◌<◌, ◌≤◌, ◌^◌, ◌⊎◌, List, ◌∷◌, length, map, sum, true, Contains, Some, slice_get}
 use Rattle.rip_wire.specs.Name.{IsName}
 use Rattle.rip_wire.specs.Prefix.{Block, ContainsAddress, IsBlock}
-use Rattle.rip_plan.specs.declared.limits.TheConstants.{MOST_ALSO, MOST_COST, MOST_INTERFACES, MOST_LINKS, MOST_PLACES, MOST_ROUTERS}
+use Rattle.rip_plan.specs.declared.limits.TheConstants.{MOST_ALSO, MOST_COST, MOST_INTERFACES, MOST_LINKS, MOST_LISTED, MOST_PLACES, MOST_ROUTERS}
 use Rattle.rip_plan.specs.declared.parts.Interface.{Interface}
+use Rattle.rip_plan.specs.declared.parts.Listed.{Listed}
 use Rattle.rip_plan.specs.declared.parts.OwnPrefix.{OwnPrefix}
 use Rattle.rip_plan.specs.declared.parts.Seat.{Seat}
 use Rattle.rip_plan.specs.declared.parts.Seat.TheVariants.{Link, Own}
@@ -144,11 +145,30 @@ IsKept n r p =
 abbrev pub IsGateway : Network → ℕ → ℕ → ℕ → Type 0
 IsGateway n r p a = (k : ℕ) × IsOwnWith n k p r (λ own. own.via ≡ Some a)
 
+-- link l has a list of what it exchanges
+abbrev pub HasList : Network → ℕ → Type 0
+HasList n l = slice_get n.lists l ≡ Some true
+
+-- prefix b stands in the list of link l
+pub record IsListed (n : Network) (l : ℕ) (b : Block) : Type 0 where
+  pub number : ℕ
+  pub item : Listed
+  pub listed : slice_get n.listed number ≡ Some item
+  pub link : item.link ≡ l
+  pub prefix : item.prefix ≡ b
+
+-- routers exchange prefix b over link l: the link has no list, or the prefix stands in it, or is
+-- the link's own
+abbrev pub Exchanges : Network → ℕ → Block → Type 0
+Exchanges n l b =
+    (HasList n l → ⊥) ⊎ (IsListed n l b ⊎ ((k : ℕ) × IsPrefix n k b × Carries n l k))
+
 -- the plan says no more of metrics and routes than RFC 2453 does: the prefixes of a link have the
--- interface's cost, and no router keeps a prefix or has one attached
+-- interface's cost, no router keeps a prefix or has one attached, and no link has a list
 pub record IsPlain (n : Network) : Type 0 where
   pub direct : (i r l c d : ℕ) → IsInterface n i r l c → IsConnected n i r l d → d ≡ c
   pub not_kept : (r p : ℕ) → IsKept n r p → ⊥
+  pub no_list : (l : ℕ) → HasList n l → ⊥
 
 -- each item stands once in the list
 abbrev pub IsEachOnce : List ℕ → Type 0
@@ -171,6 +191,7 @@ pub record IsLawful (n : Network) : Type 0 where
   pub few_interfaces : length n.interfaces ≤ MOST_INTERFACES
   pub few_also : sum (map length n.also) ≤ MOST_ALSO
   pub few_places : length n.places ≤ MOST_PLACES
+  pub few_listed : length n.listed ≤ MOST_LISTED
   -- names
   pub link_named : (l : ℕ) (name : List ℕ) → IsLinkName n l name → IsName name
   pub router_named : (r : ℕ) (name : List ℕ) → IsRouterName n r name → IsName name
@@ -178,6 +199,10 @@ pub record IsLawful (n : Network) : Type 0 where
       → IsLinkName n l name → IsLinkName n m name → l ≡ m
   pub router_names_differ : (r s : ℕ) (name : List ℕ)
       → IsRouterName n r name → IsRouterName n s name → r ≡ s
+  -- lists
+  pub list_of_each : length n.lists ≡ length n.links
+  pub listed_known : (l : ℕ) (b : Block) → IsListed n l b → HasList n l
+  pub listed_is : (l : ℕ) (b : Block) → IsListed n l b → IsBlock b
   -- interfaces, and their costs (RFC 2453, 3.5)
   pub router_known : (i r l c : ℕ) → IsInterface n i r l c → r < length n.routers
   pub link_known : (i r l c : ℕ) → IsInterface n i r l c → l < length n.links

@@ -9,7 +9,7 @@ ghost use Rattle.rip_plan.specs.Names.{number_of_name};
 ghost use Rattle.rip_plan.specs.Seats.{is_on};
 
 use crate::error::At;
-use crate::parts::{Interface, Seat};
+use crate::parts::{Interface, Listed, Seat};
 use rip_wire::{Address, Prefix};
 use std::collections::HashMap;
 
@@ -29,11 +29,13 @@ pub(crate) struct DraftPlace {
 }
 
 /// What was read of a plan so far, and whether interfaces poison that do not say it. Beside the
-/// interfaces stand the further addresses of each and how many these are; beside the links the
-/// numbers of their names and, by link, the prefixes on them.
+/// interfaces stand the further addresses of each and how many these are; beside the links whether
+/// each has a list, the numbers of their names and, by link, the prefixes on them.
 #[derive(Drop)]
 pub(crate) struct Draft {
     pub links: Vec<String>,
+    pub lists: Vec<bool>,
+    pub listed: Vec<Listed>,
     pub routers: Vec<String>,
     pub poison: bool,
     pub interfaces: Vec<DraftInterface>,
@@ -42,7 +44,7 @@ pub(crate) struct Draft {
     pub places: Vec<DraftPlace>,
     pub numbers: HashMap<String, usize>,
     pub blocks: HashMap<usize, Vec<Prefix>>,
-    ghost listed: { length also.items ≡ length interfaces.items },
+    ghost paired: { length also.items ≡ length interfaces.items },
     ghost counted: { also_count ≡ sum_by length (map (λ w. w.items) also.items) },
     ghost few: { also_count ≤ MOST_ALSO },
     ghost numbered: { (name : List ℕ) → get_by_text numbers name

@@ -67,6 +67,9 @@ pub enum At {
     Link(usize),
     /// A prefix of a link: the number of the link, and the prefix's there.
     LinkPrefix(usize, usize),
+    /// A prefix in the list of a link, to which the link keeps: the number of the link, and the
+    /// prefix's in the list.
+    LinkOnly(usize, usize),
     /// A router, by its number.
     Router(usize),
     /// An interface of a router: the number of the router, and the interface's there.

@@ -4,7 +4,7 @@ ghost use Rattle.std.specs.Prelude.{map, codes, ◌≡◌, Some, None, option_ma
 ghost use Rattle.toml.specs.Data.{as_str, as_integer, get_member};
 ghost use Rattle.toml.specs.View.{view, table_view, array_view};
 ghost use Rattle.rip_plan.specs.Fields as spec;
-ghost use Rattle.rip_plan.specs.Given.{seen_interface, seen_own};
+ghost use Rattle.rip_plan.specs.Given.{seen_interface, seen_link, seen_own};
 ghost use Rattle.rip_plan.specs.Fields.{flag_if, integer_if, interface_fields, is_version, items_at, items_if, link_fields, own_fields, root_fields, router_fields, texts_of};
 ghost use Rattle.rip_plan.specs.Names.{is_one_of};
 
@@ -58,6 +58,21 @@ fn list_if<'a>(table: &'a Table, key: &str) -> Option<&'a [Value]>
     }
 }
 
+/// The items of the list at a key, if anything is there; `None` where it is of another kind.
+#[tactic(auto, using(crate::proofs::KeyLemmas::list_of_items))]
+fn list_given<'a>(table: &'a Table, key: &str) -> Option<Option<&'a [Value]>>
+    ensures { option_map (option_map (λ v. map view v.now)) result
+        ≡ spec.list_given (get_member key.now (table_view table.now)) }
+{
+    match member(table, key) {
+        None => Some(None),
+        Some(value) => match value.as_array() {
+            Some(array) => Some(Some(array.as_slice())),
+            None => None,
+        },
+    }
+}
+
 /// The integer at a key, if anything is there; `None` where it is of another kind.
 fn integer_at(table: &Table, key: &str) -> Option<Option<i64>>
     ensures { result ≡ integer_if (get_member key.now (table_view table.now)) }
@@ -98,18 +113,30 @@ fn has_only(table: &Table, known: &[&str]) -> bool
     table.keys().all(|key| is_key_of(key.as_str(), known))
 }
 
-/// The name and the prefixes of a link's table.
+/// What a link's table gives.
+#[derive(Clone, Copy)]
+pub(crate) struct LinkFields<'a> {
+    pub name: &'a str,
+    pub prefixes: &'a [Value],
+    pub only: Option<&'a [Value]>,
+}
+
+/// The name and the prefixes of a link's table, and its list, if it has one.
 #[tactic(auto, unfolding(crate::specs::Fields::link_fields))]
-pub(crate) fn fields_of_link<'a>(table: &'a Table) -> Option<(&'a str, &'a [Value])>
-    ensures { option_map (λ f. (f.0.now, map view f.1.now)) result
-        ≡ link_fields (table_view table.now) }
+pub(crate) fn fields_of_link<'a>(table: &'a Table) -> Option<LinkFields<'a>>
+    ensures { option_map seen_link result ≡ link_fields (table_view table.now) }
 {
     if !has_only(table, &["name", "prefixes"]) {
         return None;
     }
     let name = text_at(table, "name")?;
     let prefixes = list_at(table, "prefixes")?;
-    Some((name, prefixes))
+    let only = list_given(table, "only")?;
+    Some(LinkFields {
+        name,
+        prefixes,
+        only,
+    })
 }
 
 /// The items of a list that are all texts.

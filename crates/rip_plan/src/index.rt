@@ -3,17 +3,20 @@
 ghost use Rattle.std.specs.Prelude.{◌≡◌, ◌==◌, ◌+◌, ◌*◌, ◌<◌, ◌≤◌, ℕ, [], List, length, map, IfOk, string_bytes};
 ghost use Rattle.std.specs.List.{All, list_any};
 ghost use Rattle.std.specs.HashMap.{get, get_by_text};
-ghost use Rattle.rip_plan.specs.Network.{cost_at, each_below, is_of, is_on, numbers_where, pair_eq};
+ghost use Rattle.std.specs.HashSet.{contains};
+ghost use Rattle.rip_plan.specs.Network.{cost_at, each_below, is_item, is_of, is_on, numbers_where, pair_eq, same_item};
 ghost use Rattle.rip_plan.specs.Addresses.{holder_at};
 ghost use Rattle.rip_plan.specs.Names.{number_of_name};
 ghost use Rattle.rip_plan.specs.Seats.{is_kept};
+ghost use Rattle.rip_wire.specs.Prefix.{Block};
 ghost use Rattle.rip_plan.specs.Rows.{AreCosts, AreFlags, AreOnLinks, AreOwners, IsLinkBelow, IsOwnerBelow, IsOwnerWithin, WritesCosts, cost_among};
 
 use crate::addresses::Held;
 use crate::limits::{MOST_LINKS, MOST_PLACES, MOST_ROUTERS};
-use crate::parts::{Interface, Place, Seat};
+use crate::parts::{Interface, Listed, Place, Seat};
+use rip_wire::Prefix;
 use std::alloc::{AllocError, Global};
-use std::collections::HashMap;
+use std::collections::{HashMap, HashSet};
 
 /// The number of the interface at each link and address, of the first there.
 pub(crate) fn numbers_of_addresses(
@@ -225,6 +228,29 @@ pub(crate) fn owners_of(
         }
     }
     Ok(owners)
+}
+
+/// What stands in the lists of links, by link and prefix.
+pub(crate) fn exchanged_of(
+    alloc: Global,
+    listed: &[Listed],
+) -> Result<HashSet<(usize, Prefix)>, AllocError>
+    ensures { IfOk result (λ s. (l : ℕ) (b : Block) →
+        contains same_item s (l, b) ≡ list_any (is_item l b) listed.now) }
+{
+    let mut exchanged = HashSet::new(alloc);
+    for k in 0..listed.len() {
+        let item = listed[k];
+        exchanged.insert((item.link, item.prefix))?;
+    }
+    Ok(exchanged)
+}
+
+/// Whether any link has a list.
+pub(crate) fn any_list(lists: &[bool]) -> bool
+    ensures { result ≡ list_any (λ has_list. has_list) lists.now }
+{
+    lists.iter().any(|has_list| *has_list)
 }
 
 /// Whether any router keeps a prefix.

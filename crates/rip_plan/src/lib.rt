@@ -18,7 +18,7 @@ mod reading;
 pub use error::{At, PlanCode, PlanError};
 pub use limits::{
     DEFAULT_COST, DEFAULT_KEPT, DEFAULT_POISON, MOST_ALSO, MOST_COST, MOST_INTERFACES, MOST_LINKS,
-    MOST_PLACES, MOST_PLAN_BYTES, MOST_ROUTERS,
+    MOST_LISTED, MOST_PLACES, MOST_PLAN_BYTES, MOST_ROUTERS,
 };
-pub use parts::{Interface, OwnPrefix, Place, Seat};
+pub use parts::{Interface, Listed, OwnPrefix, Place, Seat};
 pub use plan::Plan;

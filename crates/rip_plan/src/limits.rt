@@ -18,6 +18,9 @@ pub const MOST_ALSO: usize = 1_024;
 /// The most places of prefixes of a plan.
 pub const MOST_PLACES: usize = 1_024;
 
+/// The most prefixes in the lists of a plan's links, all together.
+pub const MOST_LISTED: usize = 1_024;
+
 /// The highest cost of an interface and of an own prefix (RFC 2453, 3.5).
 pub const MOST_COST: u8 = 15;
 

@@ -3,7 +3,7 @@
 ghost use Rattle.std.specs.Prelude.{◌≡◌};
 ghost use Rattle.rip_plan.specs.Seats as spec;
 
-use rip_wire::Address;
+use rip_wire::{Address, Prefix};
 
 /// A router's port on a link. Routers and links are numbered from 0 in the order of the plan.
 #[derive(Clone, Copy, Debug, PartialEq, Eq)]
@@ -79,6 +79,16 @@ impl Seat {
             Seat::Own(own) => own.via,
         }
     }
+}
+
+/// A prefix in the list of a link. Over a link that has a list its routers exchange the prefixes of
+/// the list and the link's own, and no others.
+#[derive(Clone, Copy, Debug, PartialEq, Eq)]
+pub struct Listed {
+    /// The number of the link.
+    pub link: usize,
+    /// The prefix.
+    pub prefix: Prefix,
 }
 
 /// A place of a prefix. Prefixes are numbered from 0 in the order of their first place.

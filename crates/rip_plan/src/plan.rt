@@ -1,6 +1,6 @@
 //! A plan, and what it answers.
 
-ghost use Rattle.std.specs.Prelude.{◌≡◌, ◌==◌, ◌<◌, ◌≤◌, ◌↔◌, ◌⊎◌, ℕ, Contains, Decides, IfErr, IfOk, IfSome, IsErrOf, None, Some, false, is_some, length, not, option_and_then, slice_get};
+ghost use Rattle.std.specs.Prelude.{◌≡◌, ◌==◌, ◌<◌, ◌≤◌, ◌↔◌, ◌⊎◌, ℕ, Contains, Decides, IfErr, IfNone, IfOk, IfSome, IsErrOf, None, Some, false, is_some, length, not, option_and_then, slice_get};
 ghost use Rattle.std.specs.Str.{is_utf8};
 ghost use Rattle.std.specs.List.Sorted.{IsStrictlyIncreasing};
 ghost use Rattle.rip_plan.specs.Answers.{out_of_memory};
@@ -12,7 +12,7 @@ ghost use Rattle.rip_plan.specs.Names.{number_of_name};
 ghost use Rattle.rip_plan.specs.Network.{addresses_of, direct_at, first_carrying, found_at, is_of, is_on, network_in, network_of_sketch, number_of_prefix, numbers_where, own_seat};
 ghost use Rattle.rip_plan.specs.Draft.{sketch};
 ghost use Rattle.rip_plan.specs.Seats.{gateway_of};
-ghost use Rattle.rip_plan.specs.Relations.{Carries, HasAddress, HasTwoInterfaces, IsAt, IsAttached, IsConnected, IsDirect, IsGateway, IsInterface, IsKept, IsLawful, IsLeaf, IsLinkName, IsOn, IsPlace, IsPrefix, IsRouterName, Poisons};
+ghost use Rattle.rip_plan.specs.Relations.{Carries, Exchanges, HasAddress, HasCost, HasList, HasTwoInterfaces, IsAt, IsAttached, IsConnected, IsDirect, IsGateway, IsInterface, IsKept, IsLawful, IsLeaf, IsLinkName, IsListed, IsOn, IsPlace, IsPrefix, IsRouterName, Poisons};
 
 use crate::addresses::all_addresses;
 use crate::draft::Draft;
@@ -21,11 +21,11 @@ use crate::index;
 use crate::laws::first_faults;
 use crate::limits::MOST_PLAN_BYTES;
 use crate::numbers::{interfaces_of, with_numbers};
-use crate::parts::{Interface, Place, Seat};
+use crate::parts::{Interface, Listed, Place, Seat};
 use crate::reading::read_draft;
 use rip_wire::{Address, Prefix, laws};
 use std::alloc::{AllocError, Global};
-use std::collections::HashMap;
+use std::collections::{HashMap, HashSet};
 use std::marker::Model;
 
 /// The plan of a RIP-2 network. Its links, routers and interfaces are numbered from 0 in the order
@@ -34,15 +34,18 @@ use std::marker::Model;
 #[derive(Drop)]
 pub struct Plan {
     links: Vec<String>,
+    lists: Vec<bool>,
+    listed: Vec<Listed>,
     routers: Vec<String>,
     interfaces: Vec<Interface>,
     also: Vec<Vec<Address>>,
     prefixes: Vec<Prefix>,
     places: Vec<Place>,
     // Look-ups, so that no answer walks over the parts: the interfaces of each link and router,
-    // links and routers by name, interfaces by link and address, prefixes, in rows one after another
-    // whether each link has each prefix, at which metric each router has it, and at which place as
-    // its own, and whether any router keeps a prefix.
+    // links and routers by name, interfaces by link and address, prefixes, in rows one after
+    // another whether each link has each prefix, at which metric each router has it, and at which
+    // place as its own, and whether any router keeps a prefix; what stands in the lists of links, by
+    // link and prefix, and whether any link has a list.
     on_link: Vec<Vec<usize>>,
     of_router: Vec<Vec<usize>>,
     names: HashMap<String, usize>,
@@ -53,6 +56,8 @@ pub struct Plan {
     costs: Vec<u8>,
     owners: Vec<Option<u16>>,
     any_kept: bool,
+    exchanged: HashSet<(usize, Prefix)>,
+    any_list: bool,
 }
 
 impl Model for Plan {
@@ -75,7 +80,8 @@ fn plan_of(alloc: Global, draft: Draft) -> Result<Plan, AllocError>
     let interfaces = interfaces_of(alloc, draft.interfaces.as_slice())?;
     let (prefixes, numbers, places) = with_numbers(alloc, draft.places.as_slice())?;
     let on_link = index::all_on(alloc, interfaces.as_slice(), draft.links.len())?;
-    let of_router = index::all_of(alloc, interfaces.as_slice(), draft.routers.len())?;
+    let routers = draft.routers.len();
+    let of_router = index::all_of(alloc, interfaces.as_slice(), routers)?;
     let held = all_addresses(alloc, interfaces.as_slice(), draft.also.as_slice())?;
     let addresses = index::numbers_of_addresses(alloc, held.as_slice())?;
     let carriers = index::carriers_of(alloc, places.as_slice(), draft.links.len(), prefixes.len())?;
@@ -84,19 +90,18 @@ fn plan_of(alloc: Global, draft: Draft) -> Result<Plan, AllocError>
         interfaces.as_slice(),
         on_link.as_slice(),
         places.as_slice(),
-        draft.routers.len(),
+        routers,
         prefixes.len(),
     )?;
-    let owners = index::owners_of(
-        alloc,
-        places.as_slice(),
-        draft.routers.len(),
-        prefixes.len(),
-    )?;
+    let owners = index::owners_of(alloc, places.as_slice(), routers, prefixes.len())?;
     let any_kept = index::any_kept(places.as_slice());
     let router_names = index::numbers_of_names(alloc, draft.routers.as_slice())?;
+    let exchanged = index::exchanged_of(alloc, draft.listed.as_slice())?;
+    let any_list = index::any_list(draft.lists.as_slice());
     Ok(Plan {
         links: draft.links,
+        lists: draft.lists,
+        listed: draft.listed,
         routers: draft.routers,
         interfaces,
         also: draft.also,
@@ -112,6 +117,8 @@ fn plan_of(alloc: Global, draft: Draft) -> Result<Plan, AllocError>
         costs,
         owners,
         any_kept,
+        exchanged,
+        any_list,
     })
 }
 
@@ -305,19 +312,33 @@ impl Plan {
         self.of_router[router].as_slice()
     }
 
+    /// The interface of a router on a link, if it has one.
+    pub fn interface_on(&self, router: usize, link: usize) -> Option<Interface>
+        requires { router < length self.now.routers }
+        ensures some { IfSome result (λ own. (own.router ≡ router) × (own.link ≡ link)
+            × HasCost self.now own.router own.link own.cost) }
+        ensures none { IfNone result (IsOn self.now router link → ⊥) }
+    {
+        self.lawful();
+        let numbers = self.of_router(router);
+        for j in 0..numbers.len() {
+            let own = self.interface(numbers[j]);
+            if own.link == link {
+                return Some(own);
+            }
+        }
+        None
+    }
+
     /// Whether a router is on a link.
     pub fn is_on(&self, router: usize, link: usize) -> bool
         requires { router < length self.now.routers }
         ensures { Decides result (IsOn self.now router link) }
     {
-        self.lawful();
-        let numbers = self.of_router(router);
-        for j in 0..numbers.len() {
-            if self.interface(numbers[j]).link == link {
-                return true;
-            }
+        match self.interface_on(router, link) {
+            Some(_) => true,
+            None => false,
         }
-        false
     }
 
     /// The number of the interface that has an address on a link, by the look-ups.
@@ -513,6 +534,49 @@ impl Plan {
             Some(number) => self.is_carrier(link, *number),
             None => false,
         }
+    }
+
+    /// Whether any link has a list of the prefixes that are exchanged over it.
+    pub fn has_lists(&self) -> bool
+        ensures { Decides result ((l : ℕ) × HasList self.now l) }
+    {
+        self.any_list
+    }
+
+    /// Whether a link has a list of the prefixes that are exchanged over it.
+    pub fn has_list(&self, link: usize) -> bool
+        requires { link < length self.now.links }
+        ensures { Decides result (HasList self.now link) }
+    {
+        self.lawful();
+        self.lists[link]
+    }
+
+    /// What stands in the lists of links, link by link, in the order of the plan.
+    pub fn listed(&self) -> &[Listed]
+        ensures { result.now ≡ self.now.listed }
+    {
+        self.listed.as_slice()
+    }
+
+    /// Whether a prefix stands in the list of a link.
+    fn is_listed(&self, link: usize, prefix: Prefix) -> bool
+        ensures { Decides result (IsListed self.now link prefix) }
+    {
+        self.exchanged.contains(&(link, prefix))
+    }
+
+    /// Whether routers exchange a prefix over a link: it has no list, or the prefix stands in it,
+    /// or is the link's own.
+    pub fn exchanges(&self, link: usize, prefix: Prefix) -> bool
+        requires { link < length self.now.links }
+        ensures { Decides result (Exchanges self.now link prefix) }
+    {
+        self.lawful();
+        if !self.has_list(link) {
+            return true;
+        }
+        self.is_listed(link, prefix) || self.carries(link, prefix)
     }
 
     /// Whether a link is a place of a prefix.

@@ -32,6 +32,8 @@ fn draft_of(alloc: Global, table: &Table) -> Result<Draft, ReadError>
     }
     let mut draft = Draft {
         links: Vec::new(alloc),
+        lists: Vec::new(alloc),
+        listed: Vec::new(alloc),
         routers: Vec::new(alloc),
         poison,
         interfaces: Vec::new(alloc),

@@ -19,6 +19,8 @@ prefix = block 167968768 16
 abbrev pub one_router : Network
 one_router = record {
   links = codes "a" ∷ [];
+  lists = false ∷ [];
+  listed = [];
   routers = codes "r1" ∷ [];
   interfaces =
       (record { router = 0; link = 0; address = sender; cost = 1; direct = 1; poison = true }) ∷ [];

@@ -3,7 +3,7 @@
 ghost use Rattle.std.specs.Prelude.{◌≡◌, ◌==◌, ◌≤◌, ◌++◌, ◌∷◌, ℕ, [], IfErr, IfOk, false, if◌then◌else◌, map, nat_eq, option_copied, option_map, string_bytes};
 ghost use Rattle.std.specs.List.{list_any};
 ghost use Rattle.toml.specs.View.{view};
-ghost use Rattle.rip_plan.specs.Draft.{Steps, has_address, interface_step, is_full, is_outside, link_step, own_step, prefix_step, router_step, sketch, with_interface, with_place};
+ghost use Rattle.rip_plan.specs.Draft.{Steps, has_address, interface_step, is_full, is_outside, link_step, listed_step, own_step, prefix_step, router_step, sketch, with_interface, with_link, with_place};
 ghost use Rattle.rip_plan.specs.Fields as fields_spec;
 ghost use Rattle.rip_plan.specs.Fields.{addresses_in};
 ghost use Rattle.rip_plan.specs.Fault.{steps};
@@ -13,8 +13,8 @@ ghost use Rattle.rip_plan.specs.Touches.{listed};
 use crate::draft::{Draft, DraftInterface, DraftPlace};
 use crate::error::{At, PlanCode, ReadError, fault};
 use crate::fields;
-use crate::limits::{MOST_ALSO, MOST_INTERFACES, MOST_PLACES};
-use crate::parts::{Interface, OwnPrefix, Seat};
+use crate::limits::{MOST_ALSO, MOST_INTERFACES, MOST_LISTED, MOST_PLACES};
+use crate::parts::{Interface, Listed, OwnPrefix, Seat};
 use rip_wire::{Address, Prefix, is_name};
 use std::alloc::{AllocError, Global};
 use std::collections::HashMap;
@@ -39,16 +39,22 @@ fn is_link_named(draft: &Draft, name: &str) -> bool
     number_of(draft, name).is_some()
 }
 
-/// Adds the name of a link that no earlier link has.
-fn add_link_name(draft: &mut Draft, alloc: Global, name: &str) -> Result<(), ReadError>
+/// Adds a link: its name, which no earlier link has, and whether it has a list.
+fn add_link_name(
+    draft: &mut Draft,
+    alloc: Global,
+    name: &str,
+    has_list: bool,
+) -> Result<(), ReadError>
     requires { is_one_of name.now (sketch draft.old).links ≡ false }
-    ensures { Steps (sketch draft.old) (sketch draft.new) result (λ s.
-        Ok (record s { links = s.links ++ name.now ∷ [] })) }
+    ensures { Steps (sketch draft.old) (sketch draft.new) result
+        (λ s. Ok (with_link name.now has_list s)) }
 {
     let key = String::from_str(alloc, name)?;
     let kept = String::from_str(alloc, name)?;
     // With room for the name nothing fails after its number is kept.
     draft.links.reserve(1)?;
+    draft.lists.push(has_list)?;
     draft.numbers.insert(key, draft.links.len())?;
     draft.links.push(kept)?;
     Ok(())
@@ -135,6 +141,40 @@ fn add_prefixes(draft: &mut Draft, i: usize, items: &[Value]) -> Result<(), Read
     Ok(())
 }
 
+/// Adds a prefix to the list of a link, unless there are as many as a plan may have.
+#[tactic(auto, unfolding(crate::specs::Draft::listed_step))]
+fn add_listed(draft: &mut Draft, i: usize, j: usize, item: &Value) -> Result<(), ReadError>
+    requires { 1 ≤ i }
+    ensures { Steps (sketch draft.old) (sketch draft.new) result (listed_step i j (view item.now)) }
+{
+    let at = At::LinkOnly(i, j);
+    let Some(text) = item.as_str() else {
+        return Err(fault(PlanCode::Key, at));
+    };
+    let Some(prefix) = Prefix::parse(text) else {
+        return Err(fault(PlanCode::Prefix, at));
+    };
+    if MOST_LISTED <= draft.listed.len() {
+        return Err(fault(PlanCode::Limit, at));
+    }
+    draft.listed.push(Listed {
+        link: i - 1,
+        prefix,
+    })?;
+    Ok(())
+}
+
+fn add_list(draft: &mut Draft, i: usize, items: &[Value]) -> Result<(), ReadError>
+    requires { 1 ≤ i }
+    ensures { Steps (sketch draft.old) (sketch draft.new) result
+        (steps (listed_step i) 1 (map view items.now)) }
+{
+    for (j, item) in items.iter().enumerate() {
+        add_listed(draft, i, j + 1, item)?;
+    }
+    Ok(())
+}
+
 #[tactic(auto, unfolding(crate::specs::Draft::link_step))]
 fn add_link(draft: &mut Draft, alloc: Global, i: usize, item: &Value) -> Result<(), ReadError>
     requires { 1 ≤ i }
@@ -144,17 +184,21 @@ fn add_link(draft: &mut Draft, alloc: Global, i: usize, item: &Value) -> Result<
     let Some(table) = item.as_table() else {
         return Err(fault(PlanCode::Key, at));
     };
-    let Some((name, prefixes)) = fields::fields_of_link(table) else {
+    let Some(given) = fields::fields_of_link(table) else {
         return Err(fault(PlanCode::Key, at));
     };
-    if !is_name(name.as_bytes()) {
+    if !is_name(given.name.as_bytes()) {
         return Err(fault(PlanCode::Name, at));
     }
-    if is_link_named(draft, name) {
+    if is_link_named(draft, given.name) {
         return Err(fault(PlanCode::DuplicateName, at));
     }
-    add_link_name(draft, alloc, name)?;
-    add_prefixes(draft, i, prefixes)
+    add_link_name(draft, alloc, given.name, given.only.is_some())?;
+    add_prefixes(draft, i, given.prefixes)?;
+    match given.only {
+        Some(items) => add_list(draft, i, items),
+        None => Ok(()),
+    }
 }
 
 /// The addresses of these texts, if each is one.

@@ -39,7 +39,7 @@ all_addresses-requires c = grind (arith, length-map)
 
 pub carriers_of-requires-clause-few_prefixes : goal.carriers_of-requires-clause-few_prefixes
 carriers_of-requires-clause-few_prefixes c =
-    few c.in_ok-prefixes.prefixes.items c.as_slice-2.result.now c.args.draft.places.items c.len-4.result c.in_ok-prefixes.ensures.few c.as_slice-2.ensures.value c.requires.few_places (omega arith)
+    few c.in_ok-prefixes.prefixes.items c.as_slice-2.result.now c.args.draft.places.items c.len-3.result c.in_ok-prefixes.ensures.few c.as_slice-2.ensures.value c.requires.few_places (omega arith)
 
 pub carriers_of-requires-clause-prefixes : goal.carriers_of-requires-clause-prefixes
 carriers_of-requires-clause-prefixes c = grind (arith, length-map, places_prefixes (network_of_sketch (sketch c.args.draft)) c.requires)
@@ -49,7 +49,7 @@ carriers_of-requires-clause-seats c = grind (arith, length-map, places_links (ne
 
 pub costs_of-requires-clause-few_prefixes : goal.costs_of-requires-clause-few_prefixes
 costs_of-requires-clause-few_prefixes c =
-    few c.in_ok-prefixes.prefixes.items c.as_slice-2.result.now c.args.draft.places.items c.len-6.result c.in_ok-prefixes.ensures.few c.as_slice-2.ensures.value c.requires.few_places (omega arith)
+    few c.in_ok-prefixes.prefixes.items c.as_slice-2.result.now c.args.draft.places.items c.len-4.result c.in_ok-prefixes.ensures.few c.as_slice-2.ensures.value c.requires.few_places (omega arith)
 
 pub costs_of-requires-clause-routers : goal.costs_of-requires-clause-routers
 costs_of-requires-clause-routers c = grind (arith, length-map, interfaces_routers (network_of_sketch (sketch c.args.draft)) c.requires)
@@ -74,7 +74,7 @@ costs_of-requires-clause-owners c = grind (arith, length-map, places_owners (net
 
 pub owners_of-requires-clause-few_prefixes : goal.owners_of-requires-clause-few_prefixes
 owners_of-requires-clause-few_prefixes c =
-    few c.in_ok-prefixes.prefixes.items c.as_slice-2.result.now c.args.draft.places.items c.len-8.result c.in_ok-prefixes.ensures.few c.as_slice-2.ensures.value c.requires.few_places (omega arith)
+    few c.in_ok-prefixes.prefixes.items c.as_slice-2.result.now c.args.draft.places.items c.len-5.result c.in_ok-prefixes.ensures.few c.as_slice-2.ensures.value c.requires.few_places (omega arith)
 
 pub owners_of-requires-clause-few_places : goal.owners_of-requires-clause-few_places
 owners_of-requires-clause-few_places c = grind arith
@@ -92,7 +92,7 @@ invariant_of-result c =
     let blocks : c.in_ok-prefixes.prefixes.items ≡ n.prefixes = prefixes_are c.in_ok-prefixes.ensures.parts c.as_slice-2.ensures.value in
     let places : c.in_ok-prefixes.places.items ≡ n.places = places_are c.in_ok-prefixes.ensures.parts c.as_slice-2.ensures.value in
     let links : c.len.result ≡ length c.args.draft.links.items = omega arith in
-    let routers : c.len-2.result ≡ length c.args.draft.routers.items = omega (arith, c.len-2.ensures) in
+    let routers : c.len-routers.result ≡ length c.args.draft.routers.items = omega (arith, c.len-routers.ensures) in
     record {
       lawful = rw (interfaces, blocks, places) c.requires;
       on_link = c.in_ok-on_link.ensures
@@ -111,5 +111,7 @@ invariant_of-result c =
       owners_room = grind (arith, c.in_ok-owners.ensures.room);
       owners = λ r k h. grind (arith, c.in_ok-owners.ensures.owners r k);
       any_kept = grind (arith, c.any_kept-any_kept.ensures);
+      exchanged = λ l b. grind (arith, c.in_ok-exchanged.ensures l b);
+      any_list = grind (arith, c.any_list-any_list.ensures);
       addresses = λ l a. grind (arith, c.in_ok-addresses.ensures l a, c.in_ok-held.ensures);
     }

@@ -11,11 +11,11 @@ when_ok r xs ys zs ok h = h ∙ ap (λ b. cond b xs ys) ok
 pub invariant_of-draft-2 : goal.invariant_of-draft-2
 invariant_of-draft-2 c =
     let links = c.args.draft.now.links.items in
-    let room = c.push.ensures.succeeds (omega (arith, c.in_ok-reserve.ensures.ok)) in
-    let seen : map string_bytes c.push.new.self.items ≡ map string_bytes links ++ c.args.name.now ∷ [] = grind (arith, map_push, when_ok, c.in_ok-kept.ensures.ok) in
+    let room = c.push-2.ensures.succeeds (omega (arith, c.in_ok-reserve.ensures.ok)) in
+    let seen : map string_bytes c.push-2.new.self.items ≡ map string_bytes links ++ c.args.name.now ∷ [] = grind (arith, map_push, when_ok, c.in_ok-kept.ensures.ok) in
     let number : c.len.result ≡ length (map string_bytes links) = grind (arith, length-map) in
     record {
-      listed = c.args.draft.now.listed;
+      paired = c.args.draft.now.paired;
       counted = c.args.draft.now.counted;
       few = c.args.draft.now.few;
       numbered = λ bytes.
