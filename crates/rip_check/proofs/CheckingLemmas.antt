@@ -10,13 +10,14 @@ use Rattle.rip_wire.specs.Name.{IsName, is_name}
 use Rattle.rip_wire.specs.Prefix.{Block, IsBlock, size_of}
 use Rattle.rip_plan.proofs.LookupLemmas.{own_inside}
 use Rattle.rip_plan.specs.declared.parts.Interface.{Interface}
+use Rattle.rip_plan.specs.declared.parts.Listed.{Listed}
 use Rattle.rip_plan.specs.declared.parts.OwnPrefix.{OwnPrefix}
 use Rattle.rip_plan.specs.declared.parts.Seat.{Seat}
 use Rattle.rip_plan.specs.declared.parts.Seat.TheVariants.{Link, Own}
 use Rattle.rip_plan.specs.declared.parts.Place.{Place}
 use Rattle.rip_plan.specs.Network.{Network}
 use Rattle.rip_plan.specs.Passes.{same_prefix}
-use Rattle.rip_plan.specs.Relations.{Carries, HasAddress, HasAddresses, IsAttached, IsConnected, IsEachOnce, IsInside, IsInterface, IsLawful, IsOn, IsPlace, IsPrefix, Touches}
+use Rattle.rip_plan.specs.Relations.{Carries, HasAddress, HasAddresses, IsAttached, IsConnected, IsEachOnce, IsInside, IsInterface, IsLawful, IsListed, IsOn, IsPlace, IsPrefix, Touches}
 
 -- ---- lists
 
@@ -186,6 +187,10 @@ is_empty (x ∷ xs) = false
 abbrev has_no_more : Network → Bool
 has_no_more n = (length n.also == length n.interfaces) && (each (λ i also. is_empty also) n.also && nat_le (sum (map length n.also)) 1024)
 
+-- no link has a list
+abbrev has_no_lists : Network → Bool
+has_no_lists n = (length n.lists == length n.links) && is_empty n.listed
+
 abbrev has_each : Network → Bool
 has_each n =
     below (λ r. some (λ i x. x.router == r) n.interfaces) (length n.routers)
@@ -195,6 +200,7 @@ has_each n =
 pub record Passes (n : Network) : Type 0 where
   pub counts : has_counts n ≡ true
   pub links : each (is_named_once n.links) n.links ≡ true
+  pub lists : has_no_lists n ≡ true
   pub routers : each (is_named_once n.routers) n.routers ≡ true
   pub interfaces : each (is_fit_interface n) n.interfaces ≡ true
   pub inside : each (is_inside_prefixes n) n.interfaces ≡ true
@@ -389,6 +395,20 @@ module _ (n : Network) (ok : Passes n) where
       single x zero (suc k) a f g = cc g
       single x (suc j) k a f g = cc f
 
+  none_listed : (l : ℕ) (b : Block) → IsListed n l b → ⊥
+  none_listed l b h = none n.listed (and_parts _ _ ok.lists).1 h.number h.item h.listed
+    where
+      none : (xs : List Listed) → is_empty xs ≡ true → (k : ℕ) (x : Listed) → slice_get xs k ≡ Some x → ⊥
+      none [] e k x at = cc at
+      none (y ∷ ys) e k x at = cc e
+
+  few_listed : length n.listed ≤ 1024
+  few_listed = none n.listed (and_parts _ _ ok.lists).1
+    where
+      none : (xs : List Listed) → is_empty xs ≡ true → length xs ≤ 1024
+      none [] e = omega arith
+      none (y ∷ ys) e = cc e
+
   pub lawful : NamesTested → IsLawful n
   lawful tested =
       let counts = and_parts _ _ ok.counts in
@@ -404,6 +424,10 @@ module _ (n : Network) (ok : Passes n) where
         few_interfaces = leb-true _ _ others.0;
         few_also = leb-true _ _ (and_parts _ _ (and_parts _ _ ok.also).1).1;
         few_places = leb-true _ _ others.1;
+        few_listed = few_listed;
+        list_of_each = eqb-true _ _ (and_parts _ _ ok.lists).0;
+        listed_known = λ l b h. absurd (none_listed l b h);
+        listed_is = λ l b h. absurd (none_listed l b h);
         link_named = named n.links ok.links tested;
         router_named = named n.routers ok.routers tested;
         link_names_differ = names_differ n.links ok.links;

@@ -1,5 +1,5 @@
 -- Walks over the routers' own tables come down, and end where the prefix is.
-use Rattle.std.proofs.Common.{ℕ, ◌<◌, ◌≤◌, inl, inr, Contains, List, [], ◌∷◌, ◌++◌, length, refl, arith}
+use Rattle.std.proofs.Common.{ℕ, ◌<◌, ◌≤◌, Contains, List, [], ◌∷◌, ◌++◌, length, refl, arith}
 use Rattle.rip_plan.specs.Network.{Network}
 use Rattle.rip_plan.specs.Relations.{IsLawful}
 use Rattle.rip_table.specs.State.{State}
@@ -8,7 +8,7 @@ use Rattle.rip_routes.specs.declared.next_hop.NextHop.{NextHop}
 use Rattle.rip_routes.specs.declared.next_hop.NextHop.TheVariants.{Over, Via}
 use Rattle.rip_check.specs.OwnTells.{IsToldBy}
 use Rattle.rip_check.specs.OwnSettled.{IsHopGiven, OwnHoldsAll}
-use Rattle.rip_check.specs.OwnWalks.{EachOwnCanGoOn, EachOwnEndsThere, EachOwnGoesOn, EachOwnIsShort, IsOwnWalk, OwnGoesTo, OwnPacketsArrive}
+use Rattle.rip_check.specs.OwnWalks.{EachOwnCanGoOn, EachOwnEndsThere, EachOwnGoesOn, EachOwnHasWay, EachOwnIsShort, IsOwnWalk, Means, OwnGoesTo, OwnPacketsArrive}
 use Rattle.rip_check.proofs.ShownLemmas.{known_on}
 use Rattle.rip_check.proofs.OwnRouteLemmas.{route_is}
 use Rattle.rip_check.proofs.OwnOfferLemmas.{own_offer_below}
@@ -59,22 +59,21 @@ module _ (n : Network) (told : State) (t : OwnTables) (plan : IsLawful n) (are :
 
   module _ (holds : OwnHoldsAll n told t) where
     -- whom a next hop means that gives the metric
-    step_by : (p z : ℕ) (h : NextHop) → Contains (route_at t z p).hops h → IsHopGiven n told z p (route_at t z p).metric h → (s : ℕ) × OwnGoesTo n told t p z s
-    step_by p z (Over l) listed given = (given.1.0, record { hop = Over l; listed = listed; link = l; means = refl; offer = given.1.1 })
-    step_by p z (Via a) listed given = (given.1.1, record { hop = Via a; listed = listed; link = given.1.0; means = given.1.2; offer = given.1.3 })
+    step_by : (p z : ℕ) (h : NextHop) → Contains (route_at t z p).hops h → IsHopGiven n told z p (route_at t z p).metric h → (l s : ℕ) × Means n z p h l s × OwnGoesTo n told t p z s
+    step_by p z (Over l) listed given = (l, given.1.0, refl, record { hop = Over l; listed = listed; link = l; means = refl; offer = given.1.1 })
+    step_by p z (Via a) listed given = (given.1.0, given.1.1, given.1.2, record { hop = Via a; listed = listed; link = given.1.0; means = given.1.2; offer = given.1.3 })
+
+    has_way : EachOwnHasWay n told t
+    has_way p z before known walk = (route_is t are z p).way (last p z before known walk).1
 
     goes_on : EachOwnCanGoOn n told t
-    goes_on p z before known walk on =
+    goes_on p z before h known walk listed =
         let at = last p z before known walk in
-        elim ((route_is t are z p).way at.1) [
-          | inl here ↦ absurd (on here)
-          | inr hop ↦
-              let step = step_by p z hop.0 hop.1 ((holds z p at.0 known).given.hops hop.0 hop.1) in
-              (step.0, more p z step.0 before walk step.1)
-        ]
+        let (l, s, means, step) = step_by p z h listed ((holds z p at.0 known).given.hops h listed) in
+        (l, s, means, more p z s before walk step)
 
     there : EachOwnEndsThere n told t
     there p z before known walk here = (holds z p (last p z before known walk).0 known).given.here here
 
     pub own_arrive : OwnPacketsArrive n told t
-    own_arrive = record { short = short; go_on = goes_on; there = there }
+    own_arrive = record { short = short; has_way = has_way; go_on = goes_on; there = there }

@@ -92,6 +92,8 @@ pub record IsUnsettledNetwork
 abbrev pub triangle : Network
 triangle = record {
   links = codes "a" ∷ codes "b" ∷ codes "c" ∷ [];
+  lists = replicate 3 false;
+  listed = [];
   routers = codes "r1" ∷ codes "r2" ∷ codes "r3" ∷ [];
   interfaces =
       interface 0 0 (octets 10 1 0 1) 1 ∷ interface 0 2 (octets 10 3 0 1) 1
@@ -238,6 +240,8 @@ leaf_tables = tables (
 abbrev pub slope : Network
 slope = record {
   links = codes "p" ∷ codes "m" ∷ codes "q" ∷ [];
+  lists = replicate 3 false;
+  listed = [];
   routers = codes "x" ∷ codes "y" ∷ [];
   interfaces =
       interface 0 0 (octets 10 1 0 1) 1 ∷ interface 0 1 (octets 192 168 0 1) 5
@@ -272,6 +276,8 @@ chain_interfaces (suc n) =
 abbrev pub chain : ℕ → Network
 chain n = record {
   links = each_below (n + 1) (numbered_name 108);
+  lists = replicate (n + 1) false;
+  listed = [];
   routers = each_below n (λ r. numbered_name 107 (r + 1));
   interfaces = chain_interfaces n;
   also = one_each (2 * n);

@@ -46,6 +46,8 @@ is_alive_seat f (seats.Own own) = is_router_up f own.router && is_any_up f own.l
 abbrev pub network_after : Network → Failure → Network
 network_after n f = record {
   links = n.links;
+  lists = n.lists;
+  listed = n.listed;
   routers = n.routers;
   interfaces = filter (is_alive (Some f)) n.interfaces;
   also = n.also;

@@ -1,4 +1,4 @@
--- What routers tell their neighbours, by their own tables: split horizon, by link (RFC 2453, 3.4.3).
+-- What routers tell their neighbours, by their own tables: split horizon by link (RFC 2453, 3.4.3).
 use Rattle.std.specs.Prelude.{◌≡◌, ℕ, ◌<◌, ◌⊎◌, true, false, Contains, Option, None, Some, length}
 use Rattle.rip_plan.specs.Network.{Network}
 use Rattle.rip_plan.specs.Relations.{HasAddress, IsAttached, IsGateway, IsInterface, IsNeighbour}

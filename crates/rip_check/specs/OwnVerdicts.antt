@@ -16,15 +16,15 @@ use Rattle.rip_check.specs.declared.own_verdict.Wrong.TheVariants.{Metric, Here,
 use Rattle.rip_check.specs.declared.own_verdict.OwnVerdict.{OwnVerdict}
 use Rattle.rip_check.specs.declared.own_verdict.OwnVerdict.TheVariants.{Settled, Unsettled, NoRoutes}
 
--- interface i of router r and interface j of neighbour s are on link l, and the latter has address a
--- for prefix p
+-- interface i of router r and interface j of neighbour s are on link l, and the latter has
+-- address a for prefix p
 pub record IsHadAt (n : Network) (r p a i j l s : ℕ) : Type 0 where
   pub here : (c : ℕ) × IsInterface n i r l c
   pub there : HasHopAt n j s l p a
   pub other : s ≢ r
 
--- neighbour s on link l is the first that has address a for prefix p: by the interfaces of router r,
--- and then by those of the link
+-- neighbour s on link l is the first that has address a for prefix p: by the interfaces of router
+-- r, and then by those of the link
 pub record IsFirstHad (n : Network) (r p a l s : ℕ) : Type 0 where
   pub own : ℕ
   pub across : ℕ
@@ -69,7 +69,8 @@ abbrev pub IsOwnSound : Network → State → OwnTables → ℕ → ℕ → Type
 IsOwnSound n told t r p = OwnHolds n told r p (route_at t r p)
 
 -- the metric of a place and what is wrong there
-pub record IsOwnFailing (n : Network) (told : State) (t : OwnTables) (place : OwnPlace) : Type 0 where
+pub record IsOwnFailing (n : Network) (told : State) (t : OwnTables) (place : OwnPlace)
+    : Type 0 where
   pub metric : place.metric ≡ (route_at t place.router place.prefix).metric
   pub wrong : IsWrong n told place.router place.prefix
       (route_at t place.router place.prefix) place.wrong

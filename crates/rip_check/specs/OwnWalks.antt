@@ -1,5 +1,5 @@
 -- Walks: a packet that follows the routers' own tables, over any choice of their ways.
-use Rattle.std.specs.Prelude.{◌≡◌, ℕ, ◌≤◌, ◌<◌, true, Contains, List, [], ◌∷◌, ◌++◌, length}
+use Rattle.std.specs.Prelude.{◌≡◌, ℕ, ◌≤◌, ◌<◌, ◌⊎◌, true, Contains, List, [], ◌∷◌, ◌++◌, length}
 use Rattle.rip_plan.specs.Network.{Network}
 use Rattle.rip_plan.specs.Relations.{IsDirect}
 use Rattle.rip_table.specs.State.{State}
@@ -40,12 +40,19 @@ EachOwnIsShort n told t =
     (p r : ℕ) (rest : List ℕ) → p < length t.prefixes → IsOwnWalk n told t p (r ∷ rest) →
     (length (r ∷ rest) ≤ (route_at t r p).metric) × (length (r ∷ rest) ≤ 15)
 
--- a walk whose last router is not its own way has a next router
+-- the last router of a walk is its own way, or has a next hop
+abbrev pub EachOwnHasWay : Network → State → OwnTables → Type 0
+EachOwnHasWay n told t =
+    (p z : ℕ) (before : List ℕ) → p < length t.prefixes
+    → IsOwnWalk n told t p (before ++ z ∷ [])
+    → ((route_at t z p).here ≡ true) ⊎ ((h : NextHop) × Contains (route_at t z p).hops h)
+
+-- a walk goes on over any next hop of its last router, to a neighbour that the next hop means
 abbrev pub EachOwnCanGoOn : Network → State → OwnTables → Type 0
 EachOwnCanGoOn n told t =
-    (p z : ℕ) (before : List ℕ) → p < length t.prefixes
-    → IsOwnWalk n told t p (before ++ z ∷ []) → ((route_at t z p).here ≡ true → ⊥) →
-    (s : ℕ) × IsOwnWalk n told t p (before ++ z ∷ s ∷ [])
+    (p z : ℕ) (before : List ℕ) (h : NextHop) → p < length t.prefixes
+    → IsOwnWalk n told t p (before ++ z ∷ []) → Contains (route_at t z p).hops h
+    → (l s : ℕ) × Means n z p h l s × IsOwnWalk n told t p (before ++ z ∷ s ∷ [])
 
 -- where the last router of a walk is its own way, it is on a link of the prefix, or owns it
 abbrev pub EachOwnEndsThere : Network → State → OwnTables → Type 0
@@ -54,9 +61,10 @@ EachOwnEndsThere n told t =
     → IsOwnWalk n told t p (before ++ z ∷ []) → (route_at t z p).here ≡ true →
     IsDirect n z p (route_at t z p).metric
 
--- whoever follows the tables arrives, over any choice of their ways, after at most as many routers
--- as the first one's metric, which are at most fifteen
+-- whoever follows the tables from a metric below 16 arrives, over any choice of their ways, after
+-- at most as many routers as the first one's metric, which are at most fifteen
 pub record OwnPacketsArrive (n : Network) (told : State) (t : OwnTables) : Type 0 where
   pub short : EachOwnIsShort n told t
+  pub has_way : EachOwnHasWay n told t
   pub go_on : EachOwnCanGoOn n told t
   pub there : EachOwnEndsThere n told t

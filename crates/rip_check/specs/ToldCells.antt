@@ -56,8 +56,8 @@ AreMarks Is marks = (l : ℕ) → l < length marks → Decides (slice_index_or m
 abbrev pub IsHereOn : Network → OwnTables → ℕ → ℕ → ℕ → Type 0
 IsHereOn n t r p l = IsAttached n r p l × ((route_at t r p).here ≡ true)
 
--- the interface of this number is the first on link l of another router than r that has address a for
--- prefix p
+-- the interface of this number is the first on link l of another router than r that has address a
+-- for prefix p
 pub record IsFirstAcross (n : Network) (r l p a j : ℕ) : Type 0 where
   pub router : ℕ
   pub other : router ≢ r

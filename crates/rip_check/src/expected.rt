@@ -6,7 +6,7 @@ ghost use Rattle.rip_check.specs.Expected.{AreExpected, AreUnreachable, IsCount,
 ghost use Rattle.rip_check.specs.Paths.{HasPathOver, IsLeast};
 
 use crate::least::find_least;
-use crate::lookup::{interface_on, metric_of};
+use crate::lookup::metric_of;
 use crate::places::is_direct;
 use crate::way::Way;
 use rip_plan::{Interface, MOST_ROUTERS, Plan};
@@ -163,7 +163,7 @@ impl Expected {
         if plan.keeps(router, prefix) {
             return false;
         }
-        match interface_on(plan, router, link) {
+        match plan.interface_on(router, link) {
             Some(own) => self.is_over(plan, own, prefix, metric),
             None => false,
         }

@@ -4,7 +4,6 @@ ghost use Rattle.std.specs.Prelude.{◌≡◌, ℕ, ◌<◌, ◌≤◌, ◌⊎�
 ghost use Rattle.rip_plan.specs.Relations.{Carries, IsAttached, IsDirect, IsKept, IsOn};
 ghost use Rattle.rip_check.specs.Failures.{is_any_up, is_link_up, is_router_up, network_left};
 
-use crate::lookup::interface_on;
 use crate::offers::direct_or_16;
 use rip_plan::Plan;
 
@@ -57,7 +56,7 @@ fn has_beside(plan: &Plan, failed: usize, router: usize, prefix: usize) -> bool
     if plan.attached_link(router, prefix) == Some(failed) {
         return false;
     }
-    !(plan.is_place(failed, prefix) && interface_on(plan, router, failed).is_some())
+    !(plan.is_place(failed, prefix) && plan.is_on(router, failed))
 }
 
 /// Whether the link to which a prefix is attached, if it is, has not failed.

@@ -1,14 +1,14 @@
 //! What a plan and a table say of a prefix by its number in the table.
 
-ghost use Rattle.std.specs.Prelude.{◌≡◌, ◌||◌, ◌↔◌, ℕ, ◌<◌, ◌≤◌, Decides, IfNone, IfSome, Some, length, not};
-ghost use Rattle.rip_plan.specs.Relations.{HasCost, IsAttached, IsOn};
+ghost use Rattle.std.specs.Prelude.{◌≡◌, ◌||◌, ◌↔◌, ℕ, ◌<◌, ◌≤◌, Decides, IfSome, Some, length, not};
+ghost use Rattle.rip_plan.specs.Relations.{IsAttached};
 ghost use Rattle.rip_check.specs.Cases.{network_of, told_in};
 ghost use Rattle.rip_check.specs.Metrics.{metric_at};
 ghost use Rattle.rip_check.specs.Tables.{MayHoldBack};
 ghost use Rattle.rip_check.specs.Told.{poisons};
 
 use crate::case::Case;
-use rip_plan::{Interface, Plan};
+use rip_plan::Plan;
 use rip_table::Table;
 use rip_wire::Metric;
 
@@ -19,23 +19,6 @@ pub(crate) fn metric_of(number: u32) -> Metric
     ensures { result ≡ number }
 {
     Metric::new(number).unwrap()
-}
-
-/// The interface of a router on a link, if it has one.
-pub(crate) fn interface_on(plan: &Plan, router: usize, link: usize) -> Option<Interface>
-    requires { router < length plan.now.routers }
-    ensures some { IfSome result (λ own. (own.router ≡ router) × (own.link ≡ link)
-        × HasCost plan.now own.router own.link own.cost) }
-    ensures none { IfNone result (IsOn plan.now router link → ⊥) }
-{
-    let numbers = plan.of_router(router);
-    for i in numbers {
-        let own = plan.interface(*i);
-        if own.link == link {
-            return Some(own);
-        }
-    }
-    None
 }
 
 /// The metric that an interface shows.

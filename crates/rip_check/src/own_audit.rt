@@ -10,7 +10,7 @@ ghost use Rattle.rip_check.specs.OwnSettled.{AreRightTables, EachOwnHolds, IsHop
 ghost use Rattle.rip_check.specs.OwnTells.{HasHop, IsToldBy};
 ghost use Rattle.rip_check.specs.OwnVerdicts.{IsFirstHad, IsFirstWrongHop, IsNextUnlisted, IsNextWrong, IsOwnFailing, IsOwnSound, IsOwnVerdict, IsWrong, IsWrongHop};
 ghost use Rattle.rip_check.specs.OwnWalks.{OwnPacketsArrive};
-ghost use Rattle.rip_check.specs.Settled.{IsChoice};
+ghost use Rattle.rip_check.specs.Settled.{IsChoice, IsLeastChoice};
 ghost use Rattle.rip_check.specs.Tables.{Offers};
 ghost use Rattle.rip_check.specs.Told.{told};
 
@@ -111,8 +111,8 @@ fn is_offered_by<T: Table>(case: &Case<'_, T>, router: usize, address: Address, 
     false
 }
 
-/// Whether a neighbour that a next hop means offers a metric, the least choice of a router that does
-/// not keep the prefix.
+/// Whether a neighbour that a next hop means offers a metric, the least choice of a router that
+/// does not keep the prefix.
 fn is_hop_given<T: Table>(
     case: &Case<'_, T>,
     router: usize,
@@ -164,6 +164,34 @@ fn first_wrong_hop<T: Table, G: RouteTables>(
     None
 }
 
+/// What is wrong with the route of a router by its equation, if it does not hold.
+pub(crate) fn wrong_by<T: Table, G: RouteTables>(
+    case: &Case<'_, T>,
+    tables: &G,
+    router: usize,
+    keeps: bool,
+    equation: u32,
+) -> Option<Wrong>
+    requires router { router < length (network_of case.now).routers }
+    requires prefix { case.now.prefix < length (G.tables tables.now).prefixes }
+    requires keeps { Decides keeps (IsKept (network_of case.now) router case.now.prefix) }
+    requires equation { At case.now IsLeastChoice router equation }
+    ensures some { IfSome result (At case.now IsWrong router
+        (route_at (G.tables tables.now) router case.now.prefix)) }
+    ensures none { IfNone result (At case.now OwnHolds router
+        (route_at (G.tables tables.now) router case.now.prefix)) }
+{
+    case.plan.lawful();
+    let metric = tables.metric(router, case.prefix).get();
+    if metric != equation {
+        return Some(Wrong::Metric(metric_of(equation)));
+    }
+    if tables.is_here(router, case.prefix) && !is_direct(case.plan, router, case.prefix, metric) {
+        return Some(Wrong::Here);
+    }
+    first_wrong_hop(case, tables, router, keeps, metric)
+}
+
 /// What is wrong with the route of a router, if it does not hold.
 fn wrong_at<T: Table, G: RouteTables>(
     case: &Case<'_, T>,
@@ -177,17 +205,9 @@ fn wrong_at<T: Table, G: RouteTables>(
     ensures none { IfNone result (At case.now OwnHolds router
         (route_at (G.tables tables.now) router case.now.prefix)) }
 {
-    case.plan.lawful();
     let keeps = case.plan.keeps(router, case.prefix);
     let equation = least_choice(case, router, keeps);
-    let metric = tables.metric(router, case.prefix).get();
-    if metric != equation {
-        return Some(Wrong::Metric(metric_of(equation)));
-    }
-    if tables.is_here(router, case.prefix) && !is_direct(case.plan, router, case.prefix, metric) {
-        return Some(Wrong::Here);
-    }
-    first_wrong_hop(case, tables, router, keeps, metric)
+    wrong_by(case, tables, router, keeps, equation)
 }
 
 /// The first router below a bound whose route of the prefix does not hold.
@@ -271,6 +291,37 @@ pub fn next_unlisted<G: RouteTables>(plan: &Plan, tables: &G, from: usize) -> Op
     None
 }
 
+/// A place of the routers' own tables, and what is wrong there, if anything is.
+pub(crate) fn own_place<T: Table, G: RouteTables>(
+    case: &Case<'_, T>,
+    tables: &G,
+    router: usize,
+    wrong: Option<Wrong>,
+) -> Option<OwnPlace>
+    requires told { IsToldBy (network_of case.now) (G.tables tables.now) (state_of case.now) }
+    requires router { router < length (network_of case.now).routers }
+    requires some { IfSome wrong (At case.now IsWrong router
+        (route_at (G.tables tables.now) router case.now.prefix)) }
+    requires none { IfNone wrong (At case.now OwnHolds router
+        (route_at (G.tables tables.now) router case.now.prefix)) }
+    ensures some { IfSome result (λ place. (place.router ≡ router)
+        × (place.prefix ≡ case.now.prefix)
+        × IsOwnFailing (network_of case.now) (state_of case.now) (G.tables tables.now) place) }
+    ensures none { IfNone result
+        (IsOwnSound (network_of case.now) (state_of case.now) (G.tables tables.now) router
+        case.now.prefix) }
+{
+    match wrong {
+        Some(wrong) => Some(OwnPlace {
+            router,
+            prefix: case.prefix,
+            metric: tables.metric(router, case.prefix),
+            wrong,
+        }),
+        None => None,
+    }
+}
+
 impl<T: Table> Case<'_, T> {
     /// The place of a router in the routers' own tables, and what is wrong there, if it does not
     /// hold. The table of the case is that of what the routers tell.
@@ -284,15 +335,8 @@ impl<T: Table> Case<'_, T> {
             (IsOwnSound (network_of self.now) (state_of self.now) (G.tables tables.now) router
             self.now.prefix) }
     {
-        match wrong_at(self, tables, router) {
-            Some(wrong) => Some(OwnPlace {
-                router,
-                prefix: self.prefix,
-                metric: tables.metric(router, self.prefix),
-                wrong,
-            }),
-            None => None,
-        }
+        let wrong = wrong_at(self, tables, router);
+        own_place(self, tables, router, wrong)
     }
 }
 
@@ -306,6 +350,8 @@ pub fn judge_own<T: Table, G: RouteTables>(plan: &Plan, tables: &G, table: &T) -
     requires told { IsToldBy plan.now (G.tables tables.now) (T.state table.now) }
     ensures settled { (result ≡ OwnVerdict.Settled)
         ↔ AreRightTables plan.now (G.tables tables.now) }
+    ensures places { (result ≡ OwnVerdict.Settled)
+        ↔ EachOwnHolds plan.now (T.state table.now) (G.tables tables.now) }
     ensures verdict { IsOwnVerdict plan.now (T.state table.now) (G.tables tables.now) result }
     ensures arrive { result ≡ OwnVerdict.Settled →
         OwnPacketsArrive plan.now (T.state table.now) (G.tables tables.now) }

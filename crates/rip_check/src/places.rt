@@ -11,7 +11,7 @@ ghost use Rattle.rip_check.specs.Firsts.{IsReadable, IsReason};
 ghost use Rattle.rip_check.specs.Told.{told};
 
 use crate::case::Case;
-use crate::lookup::{interface_on, metric_of};
+use crate::lookup::metric_of;
 use crate::offers::{best_over, least_choice};
 use crate::routes::{ReadRoute, read, reason};
 use crate::verdict::{Place2, Route, Unclear};
@@ -45,7 +45,7 @@ pub(crate) fn is_offered<T: Table>(
     ensures { Decides result ((s : ℕ) × Offers (network_of case.now) (told_in case.now)
         router link s case.now.prefix metric) }
 {
-    match interface_on(case.plan, router, link) {
+    match case.plan.interface_on(router, link) {
         Some(own) => best_over(case, own, 16) == metric,
         None => false,
     }

@@ -255,7 +255,8 @@ pub struct ToldTable<'a, G: RouteTables> {
 }
 
 impl<G: RouteTables> Table for ToldTable<'_, G> {
-    ghost state = { λ t. told_state t.count (G.tables t.tables.now).prefixes (rows_of t.rows.items) };
+    ghost state = { λ t. told_state t.count (G.tables t.tables.now).prefixes
+        (rows_of t.rows.items) };
 
     ghost is_state = { λ t. t.valid };
 

@@ -1,18 +1,19 @@
 //! All places that do not hold, found at once.
 
-ghost use Rattle.std.specs.Prelude.{◌≡◌, ◌≢◌, ℕ, ◌+◌, ◌*◌, ◌<◌, IfNone, IfOk, IfSome, None, length, slice_index_or};
-ghost use Rattle.rip_table.specs.State.{Fits};
+ghost use Rattle.std.specs.Prelude.{◌≡◌, ◌<◌, IfNone, IfOk, IfSome, length};
+ghost use Rattle.rip_plan.specs.Network.{Network};
+ghost use Rattle.rip_table.specs.State.{Fits, State};
 ghost use Rattle.rip_check.specs.Marks.{AreUnsettled, IsMark};
-ghost use Rattle.rip_check.specs.Cases.{At, network_of, told_in};
+ghost use Rattle.rip_check.specs.Cases.{At, network_of, state_of, told_in};
 ghost use Rattle.rip_check.specs.Verdicts.{IsFailing, IsSound};
 ghost use Rattle.rip_check.specs.Told.{told};
 
 use crate::case::Case;
-use crate::links::{NOTHING, fill};
+use crate::marks::{Marking, mark_at, marks_of};
 use crate::places::place_of;
 use crate::routes::read;
 use crate::verdict::Place2;
-use rip_plan::{MOST_LINKS, Plan};
+use rip_plan::Plan;
 use rip_table::Table;
 use std::alloc::{AllocError, Global};
 
@@ -24,31 +25,20 @@ pub struct Unsettled {
     marks: Vec<Option<u8>>,
 }
 
-/// What the equation of a place gives, if the place can be read and does not hold.
-fn mark_of<T: Table>(case: &Case<'_, T>, router: usize) -> Option<u8>
-    requires { router < length (network_of case.now).routers }
-    ensures { At case.now IsMark router result }
-{
-    match case.failing(router) {
-        Some(place) => Some(place.equation.get() as u8),
-        None => None,
-    }
-}
+/// A place is marked where it can be read and does not hold.
+#[derive(Clone, Copy)]
+struct ByRoute;
 
-/// Writes the marks of all places of a prefix.
-fn mark_prefix<T: Table>(case: &Case<'_, T>, marks: &mut [Option<u8>])
-    requires { length marks.old ≡ length (network_of case.now).routers
-        * length (told_in case.now).prefixes }
-    ensures marked { (r : ℕ) → r < length (network_of case.now).routers →
-        At case.now IsMark r (slice_index_or marks.new
-        (r * length (told_in case.now).prefixes + case.now.prefix) None) }
-    ensures others { (r q : ℕ) → q < length (told_in case.now).prefixes → q ≢ case.now.prefix →
-        slice_index_or marks.new (r * length (told_in case.now).prefixes + q) None
-        ≡ slice_index_or marks.old (r * length (told_in case.now).prefixes + q) None }
-{
-    let count = case.table.prefix_count();
-    for router in 0..case.plan.routers() {
-        marks[router * count + case.prefix] = mark_of(case, router);
+impl Marking for ByRoute {
+    ghost fits = { λ _ n s. Fits n s };
+
+    ghost is_mark = { λ _ n s. IsMark n (told n s) };
+
+    fn mark<T: Table>(&self, case: &Case<'_, T>, router: usize) -> Option<u8> {
+        match case.failing(router) {
+            Some(place) => Some(place.equation.get() as u8),
+            None => None,
+        }
     }
 }
 
@@ -60,16 +50,7 @@ impl Unsettled {
         ensures { IfOk result (λ unsettled.
             AreUnsettled plan.now (told plan.now (T.state table.now)) unsettled) }
     {
-        plan.lawful();
-        let count = table.prefix_count();
-        let mut marks = vec![in alloc; None; plan.routers() * count]?;
-        let mut room = [NOTHING; MOST_LINKS];
-        let links = &mut room[..plan.links()];
-        for prefix in 0..count {
-            let case = Case::new(plan, table, prefix);
-            fill(&case, links);
-            mark_prefix(&case.with_links(links), marks.as_mut_slice());
-        }
+        let marks = marks_of(alloc, &ByRoute, plan, table)?;
         Ok(Unsettled { marks })
     }
 
@@ -82,7 +63,7 @@ impl Unsettled {
         ensures none { IfNone result (At case.now IsSound router) }
     {
         case.plan.lawful();
-        let Some(equation) = self.marks[router * case.table.prefix_count() + case.prefix] else {
+        let Some(equation) = mark_at(case, self.marks.as_slice(), router) else {
             return None;
         };
         let route = read(case, router).unwrap();

@@ -51,6 +51,7 @@ at_text places.Text = codes "text"
 at_text places.Version = codes "version"
 at_text (places.Link i) = numbered (codes "link ") i
 at_text (places.LinkPrefix i j) = numbered (codes "link ") i ++ numbered (codes " prefix ") j
+at_text (places.LinkOnly i j) = numbered (codes "link ") i ++ numbered (codes " only ") j
 at_text (places.Router i) = numbered (codes "router ") i
 at_text (places.RouterInterface i j) =
     numbered (codes "router ") i ++ numbered (codes " interface ") j

@@ -11,7 +11,7 @@ use Rattle.rip_routes.specs.declared.next_hop.NextHop.TheVariants.{Over}
 
 -- A route as its router tells it: its metric, 16 where the router cannot reach the prefix (RFC
 -- 2453, 3.6), whether it is the router's own, and its next hops, in the order in which they were
--- told. A route may have several of these ways, all of the same metric; an unreachable one has none.
+-- told. A route may have several of these ways, all of the same metric; one of metric 16 has none.
 pub record OwnRoute : Type 0 where
   pub metric : ℕ
   pub here : Bool

@@ -47,7 +47,8 @@ impl<S: BuildHasher> RouteTables for GridRoutes<S> {
 
     ghost tables = { λ t. grid_tables t.listed.items (rows_of t.rows.entries) };
 
-    ghost are_tables = { λ t. AreOwnTables-good (grid_tables t.listed.items (rows_of t.rows.entries)) t.valid };
+    ghost are_tables = { λ t. AreOwnTables-good (grid_tables t.listed.items (rows_of t.rows.entries))
+        t.valid };
 
     fn prefix_count(&self) -> usize {
         self.rows.len()

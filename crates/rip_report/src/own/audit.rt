@@ -4,19 +4,20 @@ ghost use Rattle.std.specs.Prelude.{◌≡◌, IfOk, ℕ, List, None};
 ghost use Rattle.rip_plan.specs.Network.{Network};
 ghost use Rattle.rip_table.specs.State.{Fits};
 ghost use Rattle.rip_routes.specs.OwnTables.{FitsOwn, OwnTables};
+ghost use Rattle.rip_check.specs.Marks.{AreWrong};
 ghost use Rattle.rip_check.specs.OwnTells.{IsToldBy};
-ghost use Rattle.rip_check.specs.OwnVerdicts.{IsNextWrong, IsOwnVerdict};
+ghost use Rattle.rip_check.specs.OwnVerdicts.{IsOwnVerdict};
+ghost use Rattle.rip_report.specs.Finished.{AddsWritten};
 ghost use Rattle.rip_report.specs.Given.{IsGiven};
-ghost use Rattle.rip_report.specs.Outs.{AddsOne};
 ghost use Rattle.rip_report.specs.OwnRuns.{RunsOnRoutes};
-ghost use Rattle.rip_report.specs.OwnText.{AreTold, JudgesRightly, OwnFailingText, OwnUnsettledLine, OwnUnsettledText, OwnVerdictText, own_status};
+ghost use Rattle.rip_report.specs.OwnText.{AreTold, JudgesRightly, OwnFailingText, OwnUnsettledLine, OwnVerdictText};
 
 use crate::loops::{PairText, add_pairs};
 use crate::output::Out;
 use crate::own::lines::{push_own_settled_line, push_own_unsettled_line, push_unlisted_line};
 use crate::own::{OwnReport, run_own_report};
 use crate::status::{RunError, Status};
-use rip_check::{Case, OwnPlace, OwnVerdict, judge_own};
+use rip_check::{Case, OwnPlace, OwnVerdict, WrongPlaces, judge_own};
 use rip_log::{Sink, Source};
 use rip_plan::Plan;
 use rip_routes::RouteTables;
@@ -24,22 +25,24 @@ use rip_table::Table;
 use std::alloc::{AllocError, Global};
 use std::hash::BuildHasher;
 
-/// The places of the routers' own tables that do not hold.
+/// A line of each place of the routers' own tables that does not hold.
 #[derive(Drop)]
-struct WrongPlaces<'a, G: RouteTables> {
+struct WrongLines<'a, G: RouteTables> {
     tables: &'a G,
+    places: WrongPlaces,
 }
 
-impl<G: RouteTables> PairText for WrongPlaces<'_, G> {
+impl<G: RouteTables> PairText for WrongLines<'_, G> {
     ghost fits = { λ texts n s. FitsOwn n (G.tables texts.tables.now)
-        × IsToldBy n (G.tables texts.tables.now) s };
+        × IsToldBy n (G.tables texts.tables.now) s
+        × AreWrong n s (G.tables texts.tables.now) texts.places };
 
     ghost is_text = { λ texts n s.
         OwnFailingText n (G.tables texts.tables.now) s (OwnUnsettledLine n s) };
 
     fn add<T: Table, K: Sink>(&self, out: &mut Out<K>, case: &Case<'_, T>, router: usize) {
         case.plan.lawful();
-        match case.wrong(self.tables, router) {
+        match self.places.at(case, self.tables, router) {
             Some(place) => push_own_unsettled_line(out, case.plan, case.table, &place),
             None => {}
         }
@@ -48,62 +51,31 @@ impl<G: RouteTables> PairText for WrongPlaces<'_, G> {
 
 /// Adds the line of the first place that does not hold, or those of all.
 fn add_wrong<T: Table, G: RouteTables, K: Sink>(
+    alloc: Global,
     out: &mut Out<K>,
     plan: &Plan,
     tables: &G,
     table: &T,
     all: bool,
     place: &OwnPlace,
-)
-    requires fits { Fits plan.now (T.state table.now) }
-    requires own { FitsOwn plan.now (G.tables tables.now) }
-    requires told { IsToldBy plan.now (G.tables tables.now) (T.state table.now) }
-    requires first { IsNextWrong plan.now (T.state table.now) (G.tables tables.now) None
-        place.now }
-    ensures { AddsOne out.old out.new (OwnUnsettledText plan.now (G.tables tables.now)
-        (T.state table.now) (OwnUnsettledLine plan.now (T.state table.now)) all place.now) }
-{
-    plan.lawful();
-    if all {
-        add_pairs(out, &WrongPlaces { tables }, plan, table);
-    } else {
-        push_own_unsettled_line(out, plan, table, place);
-    }
-}
-
-/// The status of a verdict.
-pub(crate) fn own_status_of(verdict: &OwnVerdict) -> Status
-    ensures { result ≡ own_status verdict.now }
-{
-    match verdict {
-        OwnVerdict::Settled => Status::Settled,
-        OwnVerdict::Unsettled(_) => Status::Unsettled,
-        OwnVerdict::NoRoutes(_) => Status::Unclear,
-    }
-}
-
-/// Adds the text of a verdict.
-fn add_own_verdict<T: Table, G: RouteTables, K: Sink>(
-    out: &mut Out<K>,
-    plan: &Plan,
-    tables: &G,
-    table: &T,
-    all: bool,
-    verdict: &OwnVerdict,
-)
+) -> Result<Status, AllocError>
     requires fits { Fits plan.now (T.state table.now) }
     requires own { FitsOwn plan.now (G.tables tables.now) }
     requires told { IsToldBy plan.now (G.tables tables.now) (T.state table.now) }
     requires verdict { IsOwnVerdict plan.now (T.state table.now) (G.tables tables.now)
-        verdict.now }
-    ensures { AddsOne out.old out.new (λ text. OwnVerdictText plan.now all (G.tables tables.now)
-        (T.state table.now) (record { text = text; status = own_status verdict.now })) }
+        (OwnVerdict.Unsettled place.now) }
+    ensures adds { AddsWritten out.old out.new result
+        (OwnVerdictText plan.now all (G.tables tables.now) (T.state table.now)) }
+    ensures status { IfOk result (λ status. status ≡ Status.Unsettled) }
 {
-    match verdict {
-        OwnVerdict::Settled => push_own_settled_line(out, plan, table),
-        OwnVerdict::Unsettled(place) => add_wrong(out, plan, tables, table, all, place),
-        OwnVerdict::NoRoutes(router) => push_unlisted_line(out, plan, *router),
+    plan.lawful();
+    if all {
+        let places = WrongPlaces::find(alloc, plan, tables, table)?;
+        add_pairs(out, &WrongLines { tables, places }, plan, table);
+        return Ok(Status::Unsettled);
     }
+    push_own_unsettled_line(out, plan, table, place);
+    Ok(Status::Unsettled)
 }
 
 /// The command `audit --routes`, for the first place that does not hold or for all.
@@ -117,16 +89,26 @@ impl OwnReport for AuditRoutes {
 
     fn add<T: Table, G: RouteTables, K: Sink>(
         &self,
-        _alloc: Global,
+        alloc: Global,
         out: &mut Out<K>,
         plan: &Plan,
         tables: &G,
         table: &T,
     ) -> Result<Status, AllocError> {
         plan.lawful();
-        let verdict = judge_own(plan, tables, table);
-        add_own_verdict(out, plan, tables, table, self.all, &verdict);
-        Ok(own_status_of(&verdict))
+        match judge_own(plan, tables, table) {
+            OwnVerdict::Settled => {
+                push_own_settled_line(out, plan, table);
+                Ok(Status::Settled)
+            }
+            OwnVerdict::Unsettled(place) => {
+                add_wrong(alloc, out, plan, tables, table, self.all, &place)
+            }
+            OwnVerdict::NoRoutes(router) => {
+                push_unlisted_line(out, plan, router);
+                Ok(Status::Unclear)
+            }
+        }
     }
 }
 

@@ -5,6 +5,7 @@ ghost use Rattle.rip_plan.specs.Network.{Network};
 ghost use Rattle.rip_table.specs.State.{Fits};
 ghost use Rattle.rip_routes.specs.OwnTables.{FitsOwn, OwnTables};
 ghost use Rattle.rip_check.specs.Expected.{AreExpected};
+ghost use Rattle.rip_check.specs.Marks.{AreWrong};
 ghost use Rattle.rip_check.specs.OwnSettled.{AreRightTables};
 ghost use Rattle.rip_check.specs.OwnTells.{IsToldBy};
 ghost use Rattle.rip_check.specs.OwnVerdicts.{IsOwnVerdict};
@@ -25,7 +26,7 @@ use crate::own::lines::{
 };
 use crate::own::{OwnReport, run_own_report};
 use crate::status::{RunError, Status};
-use rip_check::{Case, Expected, OwnPlace, OwnVerdict, judge_own, least_metric};
+use rip_check::{Case, Expected, OwnPlace, OwnVerdict, WrongPlaces, judge_own, least_metric};
 use rip_log::{Sink, Source};
 use rip_plan::Plan;
 use rip_routes::RouteTables;
@@ -64,19 +65,21 @@ fn add_own_place<T: Table, G: RouteTables, K: Sink>(
 #[derive(Drop)]
 struct ExplainedPlaces<'a, G: RouteTables> {
     tables: &'a G,
+    places: WrongPlaces,
     expected: Expected,
 }
 
 impl<G: RouteTables> PairText for ExplainedPlaces<'_, G> {
     ghost fits = { λ texts n s. FitsOwn n (G.tables texts.tables.now)
-        × IsToldBy n (G.tables texts.tables.now) s × AreExpected n texts.expected };
+        × IsToldBy n (G.tables texts.tables.now) s × AreExpected n texts.expected
+        × AreWrong n s (G.tables texts.tables.now) texts.places };
 
     ghost is_text = { λ texts n s. OwnFailingText n (G.tables texts.tables.now) s
         (OwnPlaceLines n (G.tables texts.tables.now) s) };
 
     fn add<T: Table, K: Sink>(&self, out: &mut Out<K>, case: &Case<'_, T>, router: usize) {
         case.plan.lawful();
-        match case.wrong(self.tables, router) {
+        match self.places.at(case, self.tables, router) {
             Some(place) => {
                 let least = self.expected.least(case.plan, router, case.prefix);
                 add_own_place(out, case.plan, self.tables, case.table, &place, least);
@@ -146,8 +149,14 @@ fn add_own_unsettled<T: Table, G: RouteTables, K: Sink>(
 {
     plan.lawful();
     if all {
+        let places = WrongPlaces::find(alloc, plan, tables, table)?;
         let expected = Expected::find(alloc, plan)?;
-        add_pairs(out, &ExplainedPlaces { tables, expected }, plan, table);
+        let explained = ExplainedPlaces {
+            tables,
+            places,
+            expected,
+        };
+        add_pairs(out, &explained, plan, table);
         return Ok(Status::Unsettled);
     }
     let least = least_metric(plan, place.router, place.prefix);

@@ -55,6 +55,10 @@ fn push_at<K: Sink>(out: &mut Out<K>, place: At)
             out.push_numbered("link ", i);
             out.push_numbered(" prefix ", j);
         }
+        At::LinkOnly(i, j) => {
+            out.push_numbered("link ", i);
+            out.push_numbered(" only ", j);
+        }
         At::Router(i) => out.push_numbered("router ", i),
         At::RouterInterface(i, j) => {
             out.push_numbered("router ", i);

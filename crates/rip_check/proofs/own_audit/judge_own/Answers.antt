@@ -2,7 +2,7 @@ use Rattle.std.proofs.Common.{◌≡◌, None, IfNone, length, refl, arith}
 use Rattle.rip_check.specs.Firsts.{AreFine}
 use Rattle.rip_check.specs.OwnVerdicts.{IsNextWrong, IsOwnFailing, IsOwnSound}
 use Rattle.rip_check.specs.Told.{told}
-use Rattle.rip_check.proofs.OwnJudgeLemmas.{all_right, not_right, right_arrive, some_place}
+use Rattle.rip_check.proofs.OwnJudgeLemmas.{all_right, as_places, not_right, right_arrive, some_place}
 use Rattle.rip_check.proofs.OwnWrongLemmas.{told_unheard}
 use Rattle.rip_check.proofs.own_audit.judge_own.Goals as goal
 
@@ -65,3 +65,13 @@ returns-in-None-clause-arrive g c = λ e.
     let state = g.T.Table.state c.args.table.now in
     let t = g.G.RouteTables.tables c.args.tables.now in
     right_arrive n state t c.lawful.ensures (g.G.RouteTables.are_tables c.args.tables.now) c.requires.told (returns-in-None-clause-verdict g c)
+
+pub returns-in-Some-first_wrong_place-clause-places : goal.returns-in-Some-first_wrong_place-clause-places
+returns-in-Some-first_wrong_place-clause-places g c =
+    as_places c.args.plan.now (g.T.Table.state c.args.table.now) (g.G.RouteTables.tables c.args.tables.now) c.lawful.ensures (g.G.RouteTables.are_tables c.args.tables.now) c.requires.told
+    (returns-in-Some-first_wrong_place-clause-settled g c)
+
+pub returns-in-None-clause-places : goal.returns-in-None-clause-places
+returns-in-None-clause-places g c =
+    as_places c.args.plan.now (g.T.Table.state c.args.table.now) (g.G.RouteTables.tables c.args.tables.now) c.lawful.ensures (g.G.RouteTables.are_tables c.args.tables.now) c.requires.told
+    (returns-in-None-clause-settled g c)

@@ -9,10 +9,10 @@ use Rattle.rip_check.proofs.ExampleLemmas.{settled}
 use Rattle.rip_check.proofs.laws.examples.chains.Goals as goal
 
 passes_15 : Passes (chain 15)
-passes_15 = record { counts = refl; links = refl; routers = refl; interfaces = refl; inside = refl; prefixes = refl; places = refl; has = refl; also = refl }
+passes_15 = record { counts = refl; links = refl; lists = refl; routers = refl; interfaces = refl; inside = refl; prefixes = refl; places = refl; has = refl; also = refl }
 
 passes_16 : Passes (chain 16)
-passes_16 = record { counts = refl; links = refl; routers = refl; interfaces = refl; inside = refl; prefixes = refl; places = refl; has = refl; also = refl }
+passes_16 = record { counts = refl; links = refl; lists = refl; routers = refl; interfaces = refl; inside = refl; prefixes = refl; places = refl; has = refl; also = refl }
 
 settled_15 : NamesTested → IsSettledNetwork (chain 15) (chain_shown 15) chain_tables
 settled_15 tested = settled (chain 15) (chain_shown 15) chain_tables passes_15 tested (λ i. refl) refl refl

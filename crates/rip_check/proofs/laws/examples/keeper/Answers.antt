@@ -6,7 +6,7 @@ use Rattle.rip_check.proofs.ExampleLemmas.{settled, unsettled}
 use Rattle.rip_check.proofs.laws.examples.keeper.Goals as goal
 
 passes : Passes keeper
-passes = record { counts = refl; links = refl; routers = refl; interfaces = refl; inside = refl; prefixes = refl; places = refl; has = refl; also = refl }
+passes = record { counts = refl; links = refl; lists = refl; routers = refl; interfaces = refl; inside = refl; prefixes = refl; places = refl; has = refl; also = refl }
 
 pub returns-clause-settled : goal.returns-clause-settled
 returns-clause-settled c = settled keeper (keeper_shown 5 5) (keeper_tables (route 5 Here)) passes (λ text. (c.names.ensures.exact text).0) (λ i. refl) refl refl

@@ -9,7 +9,7 @@ use Rattle.rip_check.proofs.ExampleLemmas.{settled}
 use Rattle.rip_check.proofs.laws.examples.leaf.Goals as goal
 
 passes : Passes with_leaf
-passes = record { counts = refl; links = refl; routers = refl; interfaces = refl; inside = refl; prefixes = refl; places = refl; has = refl; also = refl }
+passes = record { counts = refl; links = refl; lists = refl; routers = refl; interfaces = refl; inside = refl; prefixes = refl; places = refl; has = refl; also = refl }
 
 pub returns-clause-settled : goal.returns-clause-settled
 returns-clause-settled c = settled with_leaf leaf_shown leaf_tables passes (λ text. (c.names.ensures.exact text).0) (λ i. refl) refl refl

@@ -8,7 +8,7 @@ use Rattle.rip_check.proofs.ExampleLemmas.{settled, unsettled}
 use Rattle.rip_check.proofs.laws.examples.phantom_prefix.Goals as goal
 
 passes : Passes triangle
-passes = record { counts = refl; links = refl; routers = refl; interfaces = refl; inside = refl; prefixes = refl; places = refl; has = refl; also = refl }
+passes = record { counts = refl; links = refl; lists = refl; routers = refl; interfaces = refl; inside = refl; prefixes = refl; places = refl; has = refl; also = refl }
 
 -- no path leads to a prefix that nobody has
 no_path : (r : ℕ) (hops : List Hop) (v : ℕ) → IsPath triangle 3 r hops v → 16 ≤ v

@@ -8,7 +8,7 @@ use Rattle.rip_check.proofs.ExampleLemmas.{settled, unsettled}
 use Rattle.rip_check.proofs.laws.examples.slope.Goals as goal
 
 passes : Passes slope
-passes = record { counts = refl; links = refl; routers = refl; interfaces = refl; inside = refl; prefixes = refl; places = refl; has = refl; also = refl }
+passes = record { counts = refl; links = refl; lists = refl; routers = refl; interfaces = refl; inside = refl; prefixes = refl; places = refl; has = refl; also = refl }
 
 pub returns-clause-settled : goal.returns-clause-settled
 returns-clause-settled c = settled slope (slope_shown 6) (slope_tables 6) passes (λ text. (c.names.ensures.exact text).0) (λ i. refl) refl refl

@@ -13,16 +13,6 @@ use Rattle.rip_check.proofs.ReadableLemmas.{fits_readable}
 use Rattle.rip_check.proofs.unsettled.Unsettled.at.Goals as goal
 use Rattle.rip_check.specs.Cases.{told_in}
 
--- what is kept of a place
-mark_at : (n : Network) (s : State) (unsettled : Unsettled) → AreUnsettled n s unsettled → (r p w : ℕ) (mark : Option ℕ) → w ≡ length s.prefixes → r < length n.routers → p < length s.prefixes
-    → mark ≡ get_or unsettled.marks.items (r * w + p) mark → IsMark n s r p mark
-mark_at n s unsettled are r p w mark e router prefix read =
-    let count = length s.prefixes in
-    let here : mark ≡ get_or unsettled.marks.items (r * count + p) mark = rw e at read in
-    let inside = mul-add-lt r count p (length n.routers) router prefix in
-    let is : mark ≡ get_or unsettled.marks.items (r * count + p) None = get_or_read unsettled.marks.items (r * count + p) mark (omega (arith, inside, are.size)) here None in
-    rw (← is) at (are.marks r p router prefix)
-
 -- the equation of a marked place
 failing_at : (n : Network) (s : State) (r p v : ℕ) (mark : Option ℕ) → mark ≡ Some v → IsMark n s r p mark → (1 ≤ v) × (v ≤ 16) × FailsWith n s r p v
 failing_at n s r p v mark e is = rw e at is.fails
@@ -35,26 +25,26 @@ pub returns-in_default-clause-none : goal.returns-in_default-clause-none
 returns-in_default-clause-none g c =
     let n = c.args.case.now.plan.now in
     let s = told_in c.args.case.now in
-    let is = mark_at n s c.args.self.now c.requires.places c.args.router c.args.case.now.prefix c.prefix_count.result c.index.result.now c.prefix_count.ensures c.requires.router c.args.case.now.within
-    c.index.ensures in
+    let mark = rw c.as_slice.ensures.value at c.mark_at.ensures in
+    let is = rw (← mark) at (c.requires.places.each c.args.router c.args.case.now.prefix c.requires.router c.args.case.now.within) in
     rw c.in_default.is at is.sound
 
 pub unwrap-route-requires : goal.unwrap-route-requires
 unwrap-route-requires g c =
     let n = c.args.case.now.plan.now in
     let s = told_in c.args.case.now in
-    let is = mark_at n s c.args.self.now c.requires.places c.args.router c.args.case.now.prefix c.prefix_count.result c.index.result.now c.prefix_count.ensures c.requires.router c.args.case.now.within
-    c.index.ensures in
-    let failing = failing_at n s c.args.router c.args.case.now.prefix c.in-Some.equation c.index.result.now c.in-Some.is is in
+    let mark = rw c.as_slice.ensures.value at c.mark_at.ensures in
+    let is = rw (← mark) at (c.requires.places.each c.args.router c.args.case.now.prefix c.requires.router c.args.case.now.within) in
+    let failing = failing_at n s c.args.router c.args.case.now.prefix c.in-Some.equation c.mark_at.result c.in-Some.is is in
     there _ c.read.result c.read.ensures.none (fits_readable n c.lawful.ensures s (in_range_of g.T.Table n c.args.case.now.table.now c.args.case.now.fits) c.args.router c.args.case.now.prefix failing.2.route c.requires.router failing.2.fits)
 
 pub place_of-requires-clause-equation : goal.place_of-requires-clause-equation
 place_of-requires-clause-equation g c =
     let n = c.args.case.now.plan.now in
     let s = told_in c.args.case.now in
-    let is = mark_at n s c.args.self.now c.requires.places c.args.router c.args.case.now.prefix c.prefix_count.result c.index.result.now c.prefix_count.ensures c.requires.router c.args.case.now.within
-    c.index.ensures in
-    let failing = failing_at n s c.args.router c.args.case.now.prefix c.in-Some.equation c.index.result.now c.in-Some.is is in
+    let mark = rw c.as_slice.ensures.value at c.mark_at.ensures in
+    let is = rw (← mark) at (c.requires.places.each c.args.router c.args.case.now.prefix c.requires.router c.args.case.now.within) in
+    let failing = failing_at n s c.args.router c.args.case.now.prefix c.in-Some.equation c.mark_at.result c.in-Some.is is in
     (omega (arith, failing.0, c.from.ensures), omega (arith, failing.1, c.from.ensures))
 
 pub returns-clause-some : goal.returns-clause-some
@@ -65,8 +55,9 @@ returns-clause-some g c =
     let p = c.args.case.now.prefix in
     let t = route_of c.unwrap-route.result in
     let read = rw c.unwrap-route.ensures at c.read.ensures.some in
-    let is = mark_at n s c.args.self.now c.requires.places r p c.prefix_count.result c.index.result.now c.prefix_count.ensures c.requires.router c.args.case.now.within c.index.ensures in
-    let failing = (failing_at n s r p c.in-Some.equation c.index.result.now c.in-Some.is is).2 in
+    let mark = rw c.as_slice.ensures.value at c.mark_at.ensures in
+    let is = rw (← mark) at (c.requires.places.each r p c.requires.router c.args.case.now.within) in
+    let failing = (failing_at n s r p c.in-Some.equation c.mark_at.result c.in-Some.is is).2 in
     let one : failing.route ≡ t = one_route n c.lawful.ensures s r p failing.route t c.requires.router failing.fits read.fits in
     rw c.place_of.ensures (
       refl,

@@ -1,22 +1,21 @@
-use Rattle.std.proofs.Common.{subst, sym}
-use Rattle.rip_report.specs.OwnText.{IsOwnJudged, OwnVerdictText}
-use Rattle.rip_report.proofs.OutLemmas.{added_also}
+use Rattle.std.proofs.Common.{ap, refl, subst}
+use Rattle.rip_report.specs.OwnText.OwnVerdictText.{a_settled, an_unlisted}
+use Rattle.rip_report.specs.OwnText.{IsOwnJudged, own_status}
+use Rattle.rip_report.proofs.OutLemmas.{adds_one}
 use Rattle.rip_report.proofs.OwnPlaceLemmas.{own_judged}
 use Rattle.rip_report.proofs.own.audit.AuditRoutesOwnReport.add.Goals as goal
 
-pub returns-clause-adds : goal.returns-clause-adds
-returns-clause-adds g c =
-    let n = c.args.plan.now in
-    let s = g.T.Table.state c.args.table.now in
-    let t = g.G.RouteTables.tables c.args.tables.now in
-    record {
-      text = added_also (λ text is. subst (λ status. OwnVerdictText n c.args.self.now.all t s (record { text = text; status = status })) (sym c.own_status_of.ensures) is) c.add_own_verdict.ensures;
-      nothing = tt;
-    }
+pub push_unlisted_line-requires : goal.push_unlisted_line-requires
+push_unlisted_line-requires g c = c.in-NoRoutes.ensures.verdict.router
 
-pub returns-clause-judged : goal.returns-clause-judged
-returns-clause-judged g c =
+pub returns-in-Settled-clause-adds : goal.returns-in-Settled-clause-adds
+returns-in-Settled-clause-adds g c = record { text = adds_one (a_settled c.in-Settled.ensures.verdict) c.push_own_settled_line.ensures; nothing = tt }
+
+pub returns-in-Settled-clause-judged : goal.returns-in-Settled-clause-judged
+returns-in-Settled-clause-judged g c =
     let n = c.args.plan.now in
     let t = g.G.RouteTables.tables c.args.tables.now in
-    let meant = own_judged n t c.judge_own-verdict.result c.lawful.ensures (g.G.RouteTables.are_tables c.args.tables.now) c.judge_own-verdict.ensures.settled in
-    subst (IsOwnJudged n t) (sym c.own_status_of.ensures) meant
+    subst (IsOwnJudged n t) (ap own_status c.in-Settled.is) (own_judged n t c.judge_own.result c.lawful.ensures (g.G.RouteTables.are_tables c.args.tables.now) c.judge_own.ensures.settled)
+
+pub returns-in-NoRoutes-clause-adds : goal.returns-in-NoRoutes-clause-adds
+returns-in-NoRoutes-clause-adds g c = record { text = adds_one (an_unlisted c.in-NoRoutes.router c.in-NoRoutes.ensures.verdict) c.push_unlisted_line.ensures; nothing = tt }

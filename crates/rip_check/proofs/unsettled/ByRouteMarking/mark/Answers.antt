@@ -1,4 +1,4 @@
-use Rattle.rip_check.proofs.unsettled.mark_of.Goals as goal
+use Rattle.rip_check.proofs.unsettled.ByRouteMarking.mark.Goals as goal
 
 pub returns-in-Some : goal.returns-in-Some
 returns-in-Some g c =

@@ -2,7 +2,7 @@ use Rattle.std.proofs.Common.{refl}
 use Rattle.rip_report.specs.OwnText.{fails, holds}
 use Rattle.rip_report.proofs.OutLemmas.{adds_nothing, adds_one}
 use Rattle.rip_report.proofs.OwnPlaceLemmas.{failing_own}
-use Rattle.rip_report.proofs.own.audit.WrongPlacesPairText.add.Goals as goal
+use Rattle.rip_report.proofs.own.audit.WrongLinesPairText.add.Goals as goal
 
 pub push_own_unsettled_line-requires : goal.push_own_unsettled_line-requires
 push_own_unsettled_line-requires g c =
