@@ -8,6 +8,7 @@ function add(text, cost, is_learned) {
     prefix[router, n] = text
     metric[router, n] = cost
     learned[router, n] = is_learned
+    read_from[router, section]++
 }
 
 # Notes a next hop of the route that was noted last.
@@ -20,10 +21,11 @@ section == "ip rip" && $2 ~ /^[0-9.]+\/[0-9]+$/ {
     add_hop($3)
 }
 
-# BIRD has next hops and the metric on lines of their own. The best route of a prefix has a star.
+# BIRD has next hops and the metric on lines of their own. The best route of a prefix has a star, or a mark of exclamation where the
+# kernel has not taken it; what follows is the protocol's.
 section == "rip interfaces" && /^[^ ]+:$/ { speaks[router, "[" substr($1, 1, length($1) - 1)] = 1 }
 section ~ /^route all/ && /^[^\t]/ { n = 0 }
-section ~ /^route all/ && /^[0-9.]+\/[0-9]+ .* \* \(/ {
+section ~ /^route all/ && /^[0-9.]+\/[0-9]+ .*\] [*!]( |$)/ {
     add($1, "", section == "route all" ? (router, $3) in speaks : $3 == "[" exporter[router])
     if (learned[router, n] && $2 != "unicast") metric[router, n] = 16
 }
@@ -33,10 +35,10 @@ section ~ /^route all/ && n && $1 == "RIP.metric:" && metric[router, n] == "" { 
 # Why a daemon shows no routes.
 is_error() && (section == "ip rip" || section ~ /^route all/) { said[router] = ": " $0 }
 
-# Tells whether the other of BIRD's two lists counts, where both are there: `show route all` has all that the router learned, and
+# Tells whether the other of BIRD's two lists counts, where both were read: `show route all` has all that the router learned, and
 # `show route all export` what it announces of its own.
 function is_elsewhere(router, n) {
-    if (!((router, "route all") in shown && (router, "route all export") in shown)) return 0
+    if (!(read_from[router, "route all"] && read_from[router, "route all export"])) return 0
     return source[router, n] == (learned[router, n] ? "route all export" : "route all")
 }
 
@@ -51,13 +53,21 @@ function print_route(router, n,    front, hop, ways, i) {
     }
 }
 
+# What is missing of a router: no route could be read, or a list of them was asked for and could not.
+function lack(router) {
+    if (!count[router]) return "no route could be read" said[router]
+    if (said[router] != "" || (router, "route all") in shown && !read_from[router, "route all"])
+        return "not all routes could be read" said[router]
+    return ""
+}
+
 END {
     for (r = 1; r <= routers; r++) {
         router = names[r]
         for (n = 1; n <= count[router]; n++) if (!is_elsewhere(router, n)) print_route(router, n)
-        if (count[router]) continue
-        print "# " router ": no route could be read" said[router]
-        tell(router ": no route could be read" said[router])
+        if (lack(router) == "") continue
+        print "# " router ": " lack(router)
+        tell(router ": " lack(router))
         lacking = 1
     }
     exit lacking

@@ -15,7 +15,7 @@ function stop(text) {
 }
 
 # Tells whether a daemon says that it cannot do what it was asked for.
-function is_error() { return /^% |^syntax error|^No valid tables/ }
+function is_error() { return /^% |^syntax error|^No valid tables|^Access denied/ }
 
 # The router that a file is named after.
 function router_of(file) {

@@ -186,7 +186,7 @@ pub(crate) const ROWS: [Row; 8] = [
 ];
 
 /// A hasher as each table takes one.
-fn hasher() -> BuildHasherDefault<FoldHasher> {
+pub(crate) fn hasher() -> BuildHasherDefault<FoldHasher> {
     BuildHasherDefault::<FoldHasher>::new()
 }
 

@@ -11,6 +11,8 @@ mod commands;
 #[cfg(test)]
 mod logs;
 #[cfg(test)]
+mod own;
+#[cfg(test)]
 mod plans;
 #[cfg(test)]
 mod statuses;

@@ -17,6 +17,7 @@ use std::process::Abort;
 
 mod failures;
 mod growths;
+mod own;
 mod packets;
 
 /// The slope where it has settled.

@@ -1,8 +1,12 @@
-//! The routers' own tables: what lines come to, and which are refused.
+//! The routers' own tables: what lines come to, which are refused, and sources that fail.
 
+ghost use Rattle.std.specs.Prelude.{IfOk};
+ghost use Rattle.rip_routes.specs.OwnTables.{FitsOwn};
+
+use crate::devices::Pieces;
 use crate::examples::TRIANGLE;
 use crate::fixtures::{metric, plan_of};
-use rip_log::{FromRead, MOST_LINE_BYTES, TextReader};
+use rip_log::{FromRead, MOST_LINE_BYTES, Source, TextReader};
 use rip_plan::Plan;
 use rip_routes::{GridRoutes, NextHop, RouteTables, RoutesCause, RoutesError, collect_routes};
 use rip_table::MOST_PREFIXES;
@@ -12,7 +16,7 @@ use std::hash::{BuildHasherDefault, FoldHasher};
 use std::process::Abort;
 use std::test::Fail;
 
-type Hasher = BuildHasherDefault<FoldHasher>;
+pub(crate) type Hasher = BuildHasherDefault<FoldHasher>;
 
 /// The tables of a text, or why it is refused.
 fn told(
@@ -20,7 +24,10 @@ fn told(
     alloc: Global,
     plan: &Plan,
     text: &[u8],
-) -> Result<GridRoutes<Hasher>, RoutesError> {
+) -> Result<GridRoutes<Hasher>, RoutesError>
+    ensures { IfOk result (λ g. FitsOwn plan.now
+        (⟦<GridRoutes<BuildHasherDefault<FoldHasher>> as RouteTables>⟧.tables g)) }
+{
     let Ok(mut reader) = TextReader::new(alloc, FromRead::new(text)) else {
         panic!(rt; "no memory");
     };
@@ -28,7 +35,10 @@ fn told(
 }
 
 /// The tables of a text that is not refused.
-fn tables(rt: &impl Abort, alloc: Global, plan: &Plan, text: &[u8]) -> GridRoutes<Hasher> {
+pub(crate) fn tables(rt: &impl Abort, alloc: Global, plan: &Plan, text: &[u8]) -> GridRoutes<Hasher>
+    ensures { FitsOwn plan.now
+        (⟦<GridRoutes<BuildHasherDefault<FoldHasher>> as RouteTables>⟧.tables result) }
+{
     match told(rt, alloc, plan, text) {
         Ok(tables) => tables,
         Err(_) => panic!(rt; "no tables"),
@@ -280,4 +290,31 @@ fn too_many_prefixes(rt: HostRuntime) -> Result<(), Fail> {
     let cause = RoutesCause::TooManyPrefixes;
     expect_refused(&rt, rt.alloc(), &plan, text.as_bytes(), 2_048, cause);
     Ok(())
+}
+
+/// Expects that a text is not read where its source fails in its pull of this number.
+fn expect_unread(rt: &impl Abort, alloc: Global, plan: &Plan, fails_at: usize, line: u32) {
+    let source = FromRead::new(Pieces::failing(ROUTES.as_bytes(), fails_at));
+    let Ok(mut reader) = TextReader::new(alloc, source) else {
+        panic!(rt; "no memory");
+    };
+    let cause = RoutesCause::Read;
+    match collect_routes(alloc, plan, &mut reader, Hasher::new(), Hasher::new()) {
+        Ok(_) => panic!(rt; "tables"),
+        Err(error) => assert!(rt; error == RoutesError { line, cause }),
+    }
+    assert!(rt; reader.into_source().failed());
+}
+
+/// Each pull fails in turn. The one after all bytes finds the end.
+#[test]
+fn a_source_that_fails(rt: HostRuntime) {
+    let plan = plan_of(&rt, rt.alloc(), TRIANGLE);
+    let mut line = 1u32;
+    for before in 0..ROUTES.len().wrapping_add(1) {
+        expect_unread(&rt, rt.alloc(), &plan, before.wrapping_add(1), line);
+        if ROUTES.as_bytes().get(before) == Some(&b'\n') {
+            line = line.wrapping_add(1);
+        }
+    }
 }

@@ -168,8 +168,8 @@ fn commands<'a>(alloc: Global) -> Result<Command<'a>, AllocError> {
     let each = "Name each place that does not hold, not only the first";
     let ripaudit = add(ripaudit, on_log_or_routes(alloc, "audit", audit, each));
     let explain = "Tells the verdict of audit, and what it comes from";
-    let of_each =
-        "Tell of each place that does not hold or cannot be read, or of each interface not heard";
+    let of_each = "Tell of each place that does not hold or cannot be read, or of each interface \
+        not heard or router without routes";
     let ripaudit = add(
         ripaudit,
         on_log_or_routes(alloc, "explain", explain, of_each),

@@ -2,7 +2,7 @@
 
 use super::{PIECES, reader_of};
 use crate::devices::Pieces;
-use rip_log::{FromRead, Line, LogCode, LogError, LogReader};
+use rip_log::{FromRead, Line, LogCode, LogError, LogReader, Span, next_field};
 use rip_wire::{WireCode, WireError};
 use std::alloc::{AllocError, Global};
 use std::process::Abort;
@@ -98,4 +98,21 @@ fn a_source_that_fails_in_a_long_line(rt: HostRuntime) -> Result<(), Fail> {
     let log = bad_log(rt.alloc(), 5000)?;
     expect_failure(&rt, rt.alloc(), log.as_slice());
     Ok(())
+}
+
+/// Fields are parted by spaces and tabs.
+#[test]
+fn fields_of_a_line(rt: HostRuntime) {
+    let line = "\t a  10.1.0.1\t";
+    let bytes = line.as_bytes();
+    let fields = [
+        (0, Some(Span { from: 2, to: 3 })),
+        (3, Some(Span { from: 5, to: 13 })),
+        (13, None),
+        (14, None),
+    ];
+    for (from, field) in fields {
+        assert!(rt; from <= bytes.len());
+        assert!(rt; next_field(bytes, from) == field);
+    }
 }

@@ -1,5 +1,6 @@
-//! What a plan answers that says all that daemons do.
+//! What a plan answers: one that says all that daemons do, and which router is where.
 
+use crate::examples::TRIANGLE;
 use crate::fixtures::plan_of;
 use rip_plan::{Plan, Seat};
 use rip_wire::{Address, Prefix};
@@ -68,4 +69,28 @@ fn what_daemons_do(rt: HostRuntime) {
     expect_costs(&rt, &plan);
     expect_further_addresses(&rt, &plan);
     expect_own(&rt, &plan);
+}
+
+/// Expects the numbers of routers and links by their names.
+fn expect_named(rt: &impl Abort, plan: &Plan) {
+    assert!(rt; plan.router_named("r2") == Some(1) && plan.router_named("b") == None);
+    assert!(rt; plan.link_named("c") == Some(2) && plan.link_named("r1") == None);
+}
+
+/// Expects the first router on links a and c, and not on link b.
+fn expect_links(rt: &impl Abort, plan: &Plan) {
+    assert!(rt; plan.routers() == 3);
+    assert!(rt; plan.is_on(0, 2) && !plan.is_on(0, 1));
+    assert!(rt; plan.interface_on(0, 1) == None);
+    match plan.interface_on(0, 2) {
+        Some(own) => assert!(rt; own.address == address(rt, "10.3.0.1")),
+        None => panic!(rt; "no interface"),
+    }
+}
+
+#[test]
+fn names_and_links(rt: HostRuntime) {
+    let plan = plan_of(&rt, rt.alloc(), TRIANGLE);
+    expect_named(&rt, &plan);
+    expect_links(&rt, &plan);
 }
