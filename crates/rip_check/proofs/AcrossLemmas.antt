@@ -6,7 +6,8 @@ use Rattle.std.proofs.lemmas.List.{get_or_default}
 use Rattle.std.proofs.lemmas.List.Elements.{Contains-get_or}
 use Rattle.rip_plan.specs.declared.parts.Interface.{Interface}
 use Rattle.rip_plan.specs.Network.{Network}
-use Rattle.rip_plan.specs.Relations.{IsLawful, IsInterface, IsKept, HasCost, IsDirect}
+use Rattle.rip_plan.specs.Relations.{IsInterface, IsKept, HasCost, IsDirect}
+use Rattle.rip_plan.specs.PrefixNetworks.{IsNetwork}
 use Rattle.rip_table.specs.State.{State}
 use Rattle.rip_check.specs.Settled.{IsChoice}
 use Rattle.rip_check.specs.Tables.{Offers}
@@ -75,7 +76,7 @@ module _ (n : Network) (l : ℕ) (numbers : List ℕ) (exact : (i : ℕ) → Con
         )
 
     -- and there are no other offers
-    pub below_offers : IsLawful n → (k best : ℕ) → length numbers ≤ k → HasCost n r l cost → IsBelowBefore best k → (s v : ℕ) → Offers n shown r l s p v → best ≤ v
+    pub below_offers : IsNetwork n → (k best : ℕ) → length numbers ≤ k → HasCost n r l cost → IsBelowBefore best k → (s v : ℕ) → Offers n shown r l s p v → best ≤ v
     below_offers plan k best end own below s v o =
         let place = across_place o.interface s o.its_cost o.there in
         let number = plan.one_on_link o.here.0 own.0 r l o.cost cost o.here.1 own.1 in
@@ -135,7 +136,7 @@ module _ (n : Network) (seen : ℕ → ℕ → ℕ → ℕ) (r l : ℕ) (two : T
 
 module _ (n : Network) (shown : State) (r l p cost : ℕ) (own : HasCost n r l cost) where
   -- what a neighbour offers is seen there
-  pub offer_seen : IsLawful n → (s w : ℕ) → (o : Offers n shown r l s p w) →
+  pub offer_seen : IsNetwork n → (s w : ℕ) → (o : Offers n shown r l s p w) →
       (v : ℕ) × IsSeen n (shown_of shown p) l o.interface s v × (w ≡ min 16 (cost + v))
   offer_seen plan s w o =
       let number = plan.one_on_link o.here.0 own.0 r l o.cost cost o.here.1 own.1 in
@@ -176,7 +177,7 @@ module _ (n : Network) (shown : State) (r l p cost : ℕ) (own : HasCost n r l c
       ]
 
   -- some neighbour offers v, or none does
-  pub offered_or_not : IsLawful n → (v : ℕ) → ((s : ℕ) × Offers n shown r l s p v) ⊎ (((s : ℕ) × Offers n shown r l s p v) → ⊥)
+  pub offered_or_not : IsNetwork n → (v : ℕ) → ((s : ℕ) × Offers n shown r l s p v) ⊎ (((s : ℕ) × Offers n shown r l s p v) → ⊥)
   offered_or_not plan v = elim (below (length n.interfaces)) [
     | inl o ↦ inl o
     | inr none ↦ inr (λ o.

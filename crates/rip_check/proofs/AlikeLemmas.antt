@@ -1,14 +1,18 @@
 -- Only what is told asks which interfaces poison: plans that are alike but for it have the same paths, and
 -- the same tables are shown.
-use Rattle.std.proofs.Common.{◌≡◌, ◌↔◌, ◌⊎◌, ◌||◌, ℕ, ◌<◌, ◌+◌, inl, inr, Bool, true, false, not, Option, None, Some, List, [], ◌∷◌, length, min, unwrap_or, slice_get, option_map, refl, sym, ◌∙◌, ap, subst}
+use Rattle.std.proofs.Common.{◌≡◌, ◌↔◌, ◌⊎◌, ◌||◌, ℕ, ◌<◌, ◌+◌, inl, inr, Bool, true, false, not, Option, None, Some, List, [], ◌∷◌, length, map, min, unwrap_or, slice_get, option_map, refl, sym, ◌∙◌, ap, subst}
 use Rattle.std.specs.Option.{option_map_or}
+use Rattle.std.proofs.lemmas.Bool.{cases_Bool}
 use Rattle.std.proofs.lemmas.Option.{none-some, same_Some, slice_get-map}
+use Rattle.rip_wire.specs.Prefix.{Block}
+use Rattle.rip_plan.specs.PrefixNetworks.{exchanges, interface_where, network_for}
+use Rattle.rip_check.specs.Networks.{block_at, network_at}
 use Rattle.rip_plan.specs.Network.{Network}
 use Rattle.rip_plan.specs.declared.parts.Interface.{Interface}
 use Rattle.rip_plan.specs.declared.parts.OwnPrefix.{OwnPrefix}
 use Rattle.rip_plan.specs.declared.parts.Seat.{Seat}
 use Rattle.rip_plan.specs.declared.parts.Seat.TheVariants.{Link}
-use Rattle.rip_plan.specs.Relations.{Carries, HasCost, IsAttached, IsConnected, IsDirect, IsInterface, IsKept, IsLawful, IsLeaf, IsNeighbour, IsOn, IsOwnWith, IsPlace, Touches}
+use Rattle.rip_plan.specs.Relations.{Carries, Exchanges, HasCost, IsAttached, IsConnected, IsDirect, IsInterface, IsKept, IsLawful, IsLeaf, IsNeighbour, IsOn, IsOwnWith, IsPlace, Touches}
 use Rattle.rip_table.specs.State.{State}
 use Rattle.rip_check.specs.declared.way.Way.{Way}
 use Rattle.rip_check.specs.declared.way.Way.TheVariants.{Unreachable, Here, Over}
@@ -155,12 +159,27 @@ goes_to n m e p r v Unreachable goes = goes
 goes_to n m e p r v Here goes = direct_to n m e r p v goes
 goes_to n m e p r v (Over l) (s, hops, path) = (s, hops, path_to n m e p r (record { link = l; to = s } ∷ hops) v path)
 
-right_to : (n m : Network) → Same n m → (count : ℕ) (T : Tables) → AllRight n count T → AllRight m count T
-right_to n m e count T right r p router lt =
-    let is = right r p (subst (λ (k : ℕ). r < k) (sym e.routers) router) lt in
+-- plans that are alike have alike networks of a prefix
+poison_for : (n : Network) (b : Block) → record (network_for n b) { interfaces = map poisoning (network_for n b).interfaces } ≡ network_for (record n { interfaces = map poisoning n.interfaces }) b
+poison_for n b = ap (λ (is : List Interface). record (network_for n b) { interfaces = is }) (both n.interfaces)
+  where
+    one : (x : Interface) → poisoning (interface_where (exchanges n b) n x) ≡ interface_where (exchanges n b) n (poisoning x)
+    one x = elim (cases_Bool (exchanges n b x.link)) [ inl e ↦ rw e refl | inr e ↦ rw e refl ]
+
+    both : (xs : List Interface) → map poisoning (map (interface_where (exchanges n b) n) xs) ≡ map (interface_where (exchanges n b) n) (map poisoning xs)
+    both [] = refl
+    both (x ∷ xs) = rw (one x, both xs) refl
+
+pub alike_at : (n m : Network) (b : Block) → AreAlike n m → AreAlike (network_for n b) (network_for m b)
+alike_at n m b alike = poison_for n b ∙ ap (λ (k : Network). network_for k b) alike ∙ sym (poison_for m b)
+
+right_to : (n m : Network) → AreAlike n m → (prefixes : List Block) (T : Tables) → AllRight n prefixes T → AllRight m prefixes T
+right_to n m alike prefixes T right r p router lt =
+    let is = right r p (subst (λ (k : ℕ). r < k) (sym (same n m alike).routers) router) lt in
+    let e = same (network_at n prefixes p) (network_at m prefixes p) (alike_at n m (block_at prefixes p) alike) in
     record {
-      least = least_to n m e p r (T r p).metric is.least;
-      goes = goes_to n m e p r (T r p).metric (T r p).way is.goes;
+      least = least_to (network_at n prefixes p) (network_at m prefixes p) e p r (T r p).metric is.least;
+      goes = goes_to (network_at n prefixes p) (network_at m prefixes p) e p r (T r p).metric (T r p).way is.goes;
     }
 
 -- ---- tables
@@ -211,13 +230,35 @@ fits_to n m e s r p route fits = record {
     as_told = λ i l c its. may_show_to n m e r l p route.metric route.way (metric_at s i p) (fits.told.as_told i l c (e.back i r l c its));
   };
   hidden = λ i l c leaf. hidden_to n m e s r i l p route (fits.hidden i l c (leaf_to m n (turned n m e) r i l c leaf));
+  lone = λ off.
+      let is = fits.lone (λ i l c its. off i l c (e.to i r l c its)) in
+      record {
+        own = λ c direct. is.own c (direct_to m n (turned n m e) r p c direct);
+        none = λ not. is.none (λ c direct. not c (direct_to n m e r p c direct));
+      };
 }
 
-shows_to : (n m : Network) → Same n m → (s : State) (T : Tables) → Shows n s T → Shows m s T
-shows_to n m e s T shows = record {
-  heard = λ i r l c its. shows.heard i r l c (e.back i r l c its);
-  fits = λ r p router lt. fits_to n m e s r p (T r p) (shows.fits r p (subst (λ (k : ℕ). r < k) (sym e.routers) router) lt);
-}
+-- what is exchanged does not ask who poisons
+exchanges_to : (n m : Network) → AreAlike n m → (l : ℕ) (b : Block) → Exchanges n l b → Exchanges m l b
+exchanges_to n m alike l b (inl free) = inl (λ has. free (ap (λ (k : Network). slice_get k.lists l) alike ∙ has))
+exchanges_to n m alike l b (inr (inl is)) =
+    inr (inl (record { number = is.number; item = is.item; listed = sym (ap (λ (k : Network). slice_get k.listed is.number) alike) ∙ is.listed; link = is.link; prefix = is.prefix }))
+exchanges_to n m alike l b (inr (inr (k, named, on))) =
+    inr (inr (k, sym (ap (λ (x : Network). slice_get x.prefixes k) alike) ∙ named, carries_to n m (same n m alike) l k on))
+
+shows_to : (n m : Network) → AreAlike n m → (s : State) (T : Tables) → Shows n s T → Shows m s T
+shows_to n m alike s T shows =
+    let e = same n m alike in
+    record {
+      heard = λ i r l c its. shows.heard i r l c (e.back i r l c its);
+      fits = λ r p router lt.
+          let is = shows.fits r p (subst (λ (k : ℕ). r < k) (sym e.routers) router) lt in
+          record {
+            quiet = λ i l c its closed. is.quiet i l c (e.back i r l c its) (λ free. closed (exchanges_to n m alike l (block_at s.prefixes p) free));
+            fits = fits_to (network_at n s.prefixes p) (network_at m s.prefixes p)
+                (same (network_at n s.prefixes p) (network_at m s.prefixes p) (alike_at n m (block_at s.prefixes p) alike)) s r p (T r p) is.fits;
+          };
+    }
 
 -- ---- plans with less poison
 
@@ -236,12 +277,12 @@ still_mute true b h then on = ap (λ (x : Bool). x || not h) (then refl)
 still_mute false true h then on = refl
 still_mute false false h then on = on
 
-pub less_poison : (n m : Network) (s : State) (T : Tables) → IsLawful n → HasLessPoison n m → Shows n (told n s) T → AllRight n (length s.prefixes) T → Shows m (told m s) T
+pub less_poison : (n m : Network) (s : State) (T : Tables) → IsLawful n → HasLessPoison n m → Shows n (told n s) T → AllRight n s.prefixes T → Shows m (told m s) T
 less_poison n m s T plan has shows right =
-    shows_to n m (same n m has.alike) (told m s) T (fewer_poison n s (mute n s) (mute m s) T plan (λ i. still_mute (poisons m i) (poisons n i) (s.heard i) (less n m has i)) shows right)
+    shows_to n m has.alike (told m s) T (fewer_poison n s (mute n s) (mute m s) T plan (λ i. still_mute (poisons m i) (poisons n i) (s.heard i) (less n m has i)) shows right)
 
-pub still_right : (n m : Network) (count : ℕ) (T : Tables) → HasLessPoison n m → AllRight n count T → AllRight m count T
-still_right n m count T has = right_to n m (same n m has.alike) count T
+pub still_right : (n m : Network) (prefixes : List Block) (T : Tables) → HasLessPoison n m → AllRight n prefixes T → AllRight m prefixes T
+still_right n m prefixes T has = right_to n m has.alike prefixes T
 
 -- ---- offers by what is told
 

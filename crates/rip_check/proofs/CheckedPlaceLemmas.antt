@@ -1,12 +1,14 @@
 -- Tests of tables that are written out, and what they tell: that they are shown, and which places hold.
-use Rattle.std.proofs.Common.{◌≡◌, ℕ, ◌+◌, ◌<◌, ◌≤◌, ◌⊎◌, inl, inr, min, unwrap_or, Bool, true, false, not, ◌&&◌, ◌||◌, ◌==◌, nat_le, nat_lt, IsTrue, length, Option, None, Some, slice_get, refl, sym, ◌∙◌, ap, arith}
+use Rattle.std.proofs.Common.{◌≡◌, ℕ, ◌+◌, ◌<◌, ◌≤◌, ◌⊎◌, inl, inr, min, unwrap_or, Bool, true, false, not, ◌&&◌, ◌||◌, ◌==◌, nat_le, nat_lt, IsTrue, length, Option, None, Some, slice_get, refl, sym, ◌∙◌, ap, subst, arith}
 use Rattle.std.proofs.lemmas.Bool.{and_parts, and_from, or_cases, or_left, or_right, not-true, not_from_false, both_ways, eqb-true, eqb-false, leb-true, ltb-true, eq-eqb, ne_eqb}
 use Rattle.rip_plan.specs.declared.parts.Seat.{Seat}
 use Rattle.rip_plan.specs.declared.parts.Seat.TheVariants.{Link, Own}
 use Rattle.rip_plan.specs.declared.parts.Place.{Place}
 use Rattle.rip_plan.specs.Network.{Network}
-use Rattle.rip_plan.specs.Relations.{Carries, IsAttached, IsAttachedAt, IsConnected, IsDirect, IsInterface, IsKept, IsPlace, Touches}
+use Rattle.rip_plan.specs.Relations.{HasList, Carries, IsAttached, IsAttachedAt, IsConnected, IsDirect, IsInterface, IsKept, IsPlace, Touches}
+use Rattle.rip_plan.proofs.PrefixNetworkLemmas.{same_network}
 use Rattle.rip_table.specs.State.{State}
+use Rattle.rip_check.specs.Networks.{block_at}
 use Rattle.rip_check.specs.declared.way.Way.{Way}
 use Rattle.rip_check.specs.declared.way.Way.TheVariants.{Unreachable, Here, Over}
 use Rattle.rip_check.specs.Tables.{Tables, Route, FitsWay, IsSilent, MayHoldBack, MayShow, Offers, IsLeastOffer, IsHiddenRoute, FitsShown, Shows}
@@ -431,11 +433,12 @@ is_alone_fit n shown r p t =
     each (λ i x. when (x.router == r) (some (λ j y. (y.router == r) && not (j == i)) n.interfaces || fits_hidden n shown r i x.link p t)) n.interfaces
 
 abbrev pub fits_at : Network → State → ℕ → ℕ → Route → Bool
-fits_at n shown r p t = (fits_way n r p t.metric t.way && is_told n shown r p t) && is_alone_fit n shown r p t
+fits_at n shown r p t = some (λ j y. y.router == r) n.interfaces && ((fits_way n r p t.metric t.way && is_told n shown r p t) && is_alone_fit n shown r p t)
 
 pub fits_gives : (n : Network) (shown : State) (r p : ℕ) (t : Route) → fits_at n shown r p t ≡ true → FitsShown n shown r p t
 fits_gives n shown r p t ok =
-    let h = and_parts _ (is_alone_fit n shown r p t) ok in
+    let whole = and_parts (some (λ j y. y.router == r) n.interfaces) _ ok in
+    let h = and_parts _ (is_alone_fit n shown r p t) whole.1 in
     let g = and_parts (fits_way n r p t.metric t.way) (is_told n shown r p t) h.0 in
     record {
       told = record {
@@ -459,6 +462,9 @@ fits_gives n shown r p t ok =
                 absurd (eqb-false f.0 i (not-true _ parts.1) (leaf.only f.0 f.1.link f.1.cost its))
             | inr fit ↦ fits_hidden_gives n shown r i l p t fit
           ];
+      lone = λ off.
+          let f = some_gives (λ j y. y.router == r) n.interfaces whole.0 in
+          absurd (off f.0 f.1.link f.1.cost (record { interface = f.1; listed = f.2; router = eqb-true _ _ f.3; link = refl; cost = refl }));
     }
 
 -- ---- every place
@@ -466,18 +472,20 @@ fits_gives n shown r p t ok =
 abbrev pub all_fit : Network → State → Tables → Bool
 all_fit n shown T = below (λ r. below (λ p. fits_at n shown r p (T r p)) (length shown.prefixes)) (length n.routers)
 
-pub shows : (n : Network) (shown : State) (T : Tables) → ((i : ℕ) → IsTrue (shown.heard i)) → all_fit n shown T ≡ true → Shows n shown T
-shows n shown T heard ok = record {
+pub shows : (n : Network) (shown : State) (T : Tables) → ((l : ℕ) → HasList n l → ⊥) → ((i : ℕ) → IsTrue (shown.heard i)) → all_fit n shown T ≡ true → Shows n shown T
+shows n shown T free heard ok = record {
   heard = λ i r l c its. heard i;
-  fits = λ r p at known.
-      fits_gives n shown r p (T r p)
-      (below_gives (λ p. fits_at n shown r p (T r p)) (length shown.prefixes) (below_gives (λ r. below (λ p. fits_at n shown r p (T r p)) (length shown.prefixes)) (length n.routers) ok r at) p known);
+  fits = λ r p at known. record {
+    quiet = λ i l c its closed. absurd (closed (inl (free l)));
+    fits = subst (λ (m : Network). FitsShown m shown r p (T r p)) (sym (same_network n (block_at shown.prefixes p) free)) (fits_gives n shown r p (T r p)
+        (below_gives (λ p. fits_at n shown r p (T r p)) (length shown.prefixes) (below_gives (λ r. below (λ p. fits_at n shown r p (T r p)) (length shown.prefixes)) (length n.routers) ok r at) p known));
+  };
 }
 
 abbrev pub all_hold : Network → State → Tables → Bool
 all_hold n shown T = below (λ r. below (λ p. holds_at n shown r p (T r p)) (length shown.prefixes)) (length n.routers)
 
-pub holds_all : (n : Network) (shown : State) (T : Tables) → all_hold n shown T ≡ true → HoldsAll n shown T
-holds_all n shown T ok r p at known =
-    holds_gives n shown r p (T r p)
-    (below_gives (λ p. holds_at n shown r p (T r p)) (length shown.prefixes) (below_gives (λ r. below (λ p. holds_at n shown r p (T r p)) (length shown.prefixes)) (length n.routers) ok r at) p known)
+pub holds_all : (n : Network) (shown : State) (T : Tables) → ((l : ℕ) → HasList n l → ⊥) → all_hold n shown T ≡ true → HoldsAll n shown T
+holds_all n shown T free ok r p at known =
+    subst (λ (m : Network). Holds m shown r p (T r p)) (sym (same_network n (block_at shown.prefixes p) free)) (holds_gives n shown r p (T r p)
+    (below_gives (λ p. holds_at n shown r p (T r p)) (length shown.prefixes) (below_gives (λ r. below (λ p. holds_at n shown r p (T r p)) (length shown.prefixes)) (length n.routers) ok r at) p known))

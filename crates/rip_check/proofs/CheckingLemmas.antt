@@ -17,7 +17,7 @@ use Rattle.rip_plan.specs.declared.parts.Seat.TheVariants.{Link, Own}
 use Rattle.rip_plan.specs.declared.parts.Place.{Place}
 use Rattle.rip_plan.specs.Network.{Network}
 use Rattle.rip_plan.specs.Passes.{same_prefix}
-use Rattle.rip_plan.specs.Relations.{Carries, HasAddress, HasAddresses, IsAttached, IsConnected, IsEachOnce, IsInside, IsInterface, IsLawful, IsListed, IsOn, IsPlace, IsPrefix, Touches}
+use Rattle.rip_plan.specs.Relations.{Carries, HasAddress, HasAddresses, HasList, IsAttached, IsConnected, IsEachOnce, IsInside, IsInterface, IsLawful, IsListed, IsOn, IsPlace, IsPrefix, Touches}
 
 -- ---- lists
 
@@ -189,7 +189,7 @@ has_no_more n = (length n.also == length n.interfaces) && (each (λ i also. is_e
 
 -- no link has a list
 abbrev has_no_lists : Network → Bool
-has_no_lists n = (length n.lists == length n.links) && is_empty n.listed
+has_no_lists n = ((length n.lists == length n.links) && is_empty n.listed) && each (λ l has_list. not has_list) n.lists
 
 abbrev has_each : Network → Bool
 has_each n =
@@ -396,14 +396,17 @@ module _ (n : Network) (ok : Passes n) where
       single x (suc j) k a f g = cc f
 
   none_listed : (l : ℕ) (b : Block) → IsListed n l b → ⊥
-  none_listed l b h = none n.listed (and_parts _ _ ok.lists).1 h.number h.item h.listed
+  none_listed l b h = none n.listed (and_parts _ _ (and_parts _ _ ok.lists).0).1 h.number h.item h.listed
     where
       none : (xs : List Listed) → is_empty xs ≡ true → (k : ℕ) (x : Listed) → slice_get xs k ≡ Some x → ⊥
       none [] e k x at = cc at
       none (y ∷ ys) e k x at = cc e
 
+  pub free : (l : ℕ) → HasList n l → ⊥
+  free l has = let clash : false ≡ true = each_gives (λ l has_list. not has_list) n.lists (and_parts _ _ ok.lists).1 l true has in cc clash
+
   few_listed : length n.listed ≤ 1024
-  few_listed = none n.listed (and_parts _ _ ok.lists).1
+  few_listed = none n.listed (and_parts _ _ (and_parts _ _ ok.lists).0).1
     where
       none : (xs : List Listed) → is_empty xs ≡ true → length xs ≤ 1024
       none [] e = omega arith
@@ -425,7 +428,7 @@ module _ (n : Network) (ok : Passes n) where
         few_also = leb-true _ _ (and_parts _ _ (and_parts _ _ ok.also).1).1;
         few_places = leb-true _ _ others.1;
         few_listed = few_listed;
-        list_of_each = eqb-true _ _ (and_parts _ _ ok.lists).0;
+        list_of_each = eqb-true _ _ (and_parts _ _ (and_parts _ _ ok.lists).0).0;
         listed_known = λ l b h. absurd (none_listed l b h);
         listed_is = λ l b h. absurd (none_listed l b h);
         link_named = named n.links ok.links tested;

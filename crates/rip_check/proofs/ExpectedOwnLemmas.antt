@@ -1,10 +1,12 @@
 -- Expected routes, told as the routers' own, are right.
-use Rattle.std.proofs.Common.{ℕ, sym, subst}
+use Rattle.std.proofs.Common.{ℕ, List, sym, subst}
+use Rattle.rip_wire.specs.Prefix.{Block}
 use Rattle.rip_plan.specs.Network.{Network}
 use Rattle.rip_plan.specs.Relations.{IsLawful}
 use Rattle.rip_table.specs.State.{State}
 use Rattle.rip_routes.specs.OwnTables.{AreOwnTables, OwnRoute, OwnTables, route_at}
 use Rattle.rip_routes.specs.declared.next_hop.NextHop.{NextHop}
+use Rattle.rip_check.specs.Networks.{network_at}
 use Rattle.rip_check.specs.OwnLaws.{AreExpectedTables, IsExpectedOwn}
 use Rattle.rip_check.specs.OwnSettled.{AreRightTables, EachOwnHolds, HopGoesRight, IsOwnRight}
 use Rattle.rip_check.specs.OwnTells.{IsToldBy}
@@ -23,7 +25,9 @@ module _ (n : Network) (t : OwnTables) (are : AreExpectedTables n t) where
   pub expected_are_right : AreRightTables n t
   expected_are_right = record {
     listed = are.listed;
-    right = λ r p at known. expected_right n r p (route_at t r p) (are.routes r p at (rw are.prefixes at known));
+    right = λ r p at known.
+        let right = expected_right (network_at n n.prefixes p) r p (route_at t r p) (are.routes r p at (rw are.prefixes at known)) in
+        subst (λ (b : List Block). IsOwnRight (network_at n b p) r p (route_at t r p)) (sym are.prefixes) right;
   }
 
   pub expected_settle : (told : State) → IsLawful n → AreOwnTables t → IsToldBy n t told → EachOwnHolds n told t

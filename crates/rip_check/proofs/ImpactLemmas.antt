@@ -1,10 +1,10 @@
 -- What a failure costs, counted router by router and prefix by prefix.
-use Rattle.std.proofs.Common.{◌≡◌, ℕ, zero, suc, ◌+◌, ◌<◌, ◌≤◌, ◌⊎◌, inl, inr, true, Decides, nat_lt, length, max, ◌∙◌, arith}
+use Rattle.std.proofs.Common.{◌≡◌, ℕ, zero, suc, ◌+◌, ◌<◌, ◌≤◌, ◌⊎◌, inl, inr, true, Some, Decides, nat_lt, length, max, ◌∙◌, arith}
 use Rattle.std.proofs.lemmas.Bool.{cases_lt, lt-ltb}
 use Rattle.rip_plan.specs.Network.{Network}
 use Rattle.rip_check.specs.declared.failures.Failure.{Failure}
 use Rattle.rip_check.specs.Expected.{IsCount, IsTotal}
-use Rattle.rip_check.specs.Failures.{network_after}
+use Rattle.rip_check.specs.Failures.{left_to}
 use Rattle.rip_check.specs.Impacts.{AreLostBy, IsHardestHit}
 use Rattle.rip_check.specs.Losses.{IsLonger, IsLost, Loses}
 use Rattle.rip_check.proofs.OverLemmas.{one_least}
@@ -56,10 +56,10 @@ count_most IsKind (suc k) count (inr h) = omega (arith, count_most IsKind k h.0 
 module _ (n : Network) (f : Failure) where
   -- one metric is after the failure
   pub one_after : (r p v w : ℕ) → IsLonger n f r p v → IsLonger n f r p w → v ≡ w
-  one_after r p v w a b = one_least (network_after n f) p r v w a.moved.after b.moved.after
+  one_after r p v w a b = one_least (left_to n (Some f) p) p r v w a.moved.after b.moved.after
 
   pub lost_not_longer : (r p w : ℕ) → IsLost n f r p → IsLonger n f r p w → ⊥
-  lost_not_longer r p w lost longer = omega (arith, one_least (network_after n f) p r 16 w lost.moved.after longer.moved.after, longer.small)
+  lost_not_longer r p w lost longer = omega (arith, one_least (left_to n (Some f) p) p r 16 w lost.moved.after longer.moved.after, longer.small)
 
   pub losing : (total : ℕ) → IsTotal (AreLostBy n f) (length n.routers) total → Decides (nat_lt 0 total) (Loses n f)
   losing total is = (

@@ -4,7 +4,8 @@ use Rattle.std.proofs.lemmas.Bool.{cases_lt, cases_eq}
 use Rattle.std.proofs.lemmas.Option.{slice_get_within, same_Some}
 use Rattle.rip_plan.specs.declared.parts.Interface.{Interface}
 use Rattle.rip_plan.specs.Network.{Network}
-use Rattle.rip_plan.specs.Relations.{IsAttached, IsDirect, IsInterface, IsLawful, IsLeaf}
+use Rattle.rip_plan.specs.Relations.{IsAttached, IsDirect, IsInterface, IsLeaf}
+use Rattle.rip_plan.specs.PrefixNetworks.{IsNetwork}
 use Rattle.rip_table.specs.State.{State}
 use Rattle.rip_check.specs.declared.way.Way.{Way}
 use Rattle.rip_check.specs.declared.way.Way.TheVariants.{Unreachable, Here, Over}
@@ -150,6 +151,7 @@ module _ (n : Network) (shown : State) (r i p : ℕ) (own : Interface) (mine : o
           as_told = only_one (λ j k. MayShow n r k p t.metric t.way (metric_at shown j p)) told;
         };
         hidden = λ j k d other. only_one (λ x y. IsHiddenRoute n shown r x y p t) hidden j k d other.has;
+        lone = λ off. absurd (off i own.link own.cost leaf.has);
       }
 
   not_small : (m : ℕ) → m < 16 → metric_at shown i p ≡ Some m → IsSilent (metric_at shown i p) → ⊥
@@ -164,7 +166,7 @@ module _ (n : Network) (shown : State) (r i p : ℕ) (own : Interface) (mine : o
       (record { held_back = λ on silent. absurd (not_small m less e silent); learned = λ off is. absurd (not_small m less e (inr is)) })
 
   -- it has the prefix itself, and may hold that back on its link
-  pub here_fits : IsLawful n → IsSilent (metric_at shown i p) → MayHoldBack n r p own.link → (d : ℕ) → IsDirect n r p d → FitsShown n shown r p (record { metric = d; way = Here })
+  pub here_fits : IsNetwork n → IsSilent (metric_at shown i p) → MayHoldBack n r p own.link → (d : ℕ) → IsDirect n r p d → FitsShown n shown r p (record { metric = d; way = Here })
   here_fits plan silent held_back d direct =
       let most = direct_most n plan r p d direct in
       made (record { metric = d; way = Here }) (direct_least n plan r p d direct, omega (arith, most)) (inr (held_back, silent))
@@ -177,7 +179,7 @@ module _ (n : Network) (shown : State) (r i p : ℕ) (own : Interface) (mine : o
       (record { held_back = λ on is. absurd (off on); learned = λ off' is. (least is, λ lt. absurd (omega (arith, lt)), λ is'. refl) })
 
   -- it shows 16, and the least offer is below that
-  pub over_fits : IsLawful n → metric_at shown i p ≡ Some 16 → (MayHoldBack n r p own.link → ⊥) → (h : ℕ) → IsLeastOffer n shown r p h → h < 16 →
+  pub over_fits : IsNetwork n → metric_at shown i p ≡ Some 16 → (MayHoldBack n r p own.link → ⊥) → (h : ℕ) → IsLeastOffer n shown r p h → h < 16 →
       FitsShown n shown r p (record { metric = h; way = Over own.link })
   over_fits plan e off h so less =
       made (record { metric = h; way = Over own.link }) (at_least so.reached, less, (own.cost, (i, leaf.has)), off) (inl (refl, e))
@@ -203,7 +205,7 @@ module _ (n : Network) (shown : State) (r i p : ℕ) (own : Interface) (mine : o
           let on = f.2 in
           h.0 (only_one (λ x y. y ≡ own.link) refl on.1.0 k on.0 on.1.1)
 
-  a_route : IsLawful n → IsInRange n shown → (u : Route) → Tells n shown r p u → (t : Route) × FitsShown n shown r p t
+  a_route : IsNetwork n → IsInRange n shown → (u : Route) → Tells n shown r p u → (t : Route) × FitsShown n shown r p t
   a_route plan range u tells = go (metric_at shown i p) refl (holds_back_or_not n r p own.link)
     where
       so : LeastAt n.interfaces shown own p (length n.interfaces)
@@ -242,7 +244,8 @@ module _ (n : Network) (shown : State) (r i p : ℕ) (own : Interface) (mine : o
 
   -- hidden is told from its interface
   pub hidden_at : IsHidden n shown r p → (MayHoldBack n r p own.link × IsSilent (metric_at shown i p)) ⊎ ((MayHoldBack n r p own.link → ⊥) × (metric_at shown i p ≡ Some 16))
-  hidden_at h =
+  hidden_at (inr off) = absurd (off i own.link own.cost leaf.has)
+  hidden_at (inl h) =
       let e : h.0 ≡ i = leaf.only h.0 h.1 h.2 h.3.has in
       let at : IsInterface n i r h.1 h.2 = rw e at h.3.has in
       let e' : h.1 ≡ own.link = (its_link n i r h.1 h.2 r own.link own.cost at leaf.has).1 in
@@ -287,6 +290,6 @@ module _ (n : Network) (shown : State) (r i p : ℕ) (own : Interface) (mine : o
       go (Over k) f (inr h) = cc (e, h.1)
 
 -- a leaf has a route that fits where one could be behind what it shows
-pub leaf_route : (n : Network) (shown : State) (r i l c p : ℕ) → IsLeaf n r i l c → IsLawful n → IsInRange n shown → (u : Route) → Tells n shown r p u → (t : Route) × FitsShown n shown r p t
+pub leaf_route : (n : Network) (shown : State) (r i l c p : ℕ) → IsLeaf n r i l c → IsNetwork n → IsInRange n shown → (u : Route) → Tells n shown r p u → (t : Route) × FitsShown n shown r p t
 leaf_route n shown r i l c p leaf plan range =
     a_route n shown r i p leaf.has.interface leaf.has.router (rw (leaf.has.link, leaf.has.cost) leaf) plan range

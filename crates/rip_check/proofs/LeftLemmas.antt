@@ -1,21 +1,25 @@
 -- What is left of a network after a failure.
-use Rattle.std.proofs.Common.{◌≡◌, ℕ, zero, suc, ◌<◌, ◌≤◌, ◌⊎◌, ◌↔◌, inl, inr, Bool, true, false, not, cond, List, [], ◌∷◌, length, Option, None, Some, slice_get, refl, ap, ◌∙◌, arith}
+use Rattle.std.proofs.Common.{◌≡◌, ℕ, zero, suc, ◌<◌, ◌≤◌, ◌⊎◌, ◌↔◌, inl, inr, Bool, true, false, not, cond, List, [], ◌∷◌, length, Option, None, Some, slice_get, refl, ap, subst, ◌∙◌, arith}
 use Rattle.rip_plan.proofs.LookupLemmas.{interface_of, one_seat, own_says}
 use Rattle.std.specs.List.{filter}
 use Rattle.std.specs.Prelude.{eqb}
-use Rattle.std.proofs.lemmas.Bool.{eqb-true, eq-eqb, and_parts, and_from}
+use Rattle.std.proofs.lemmas.Bool.{both_ways, eqb-true, eq-eqb, and_parts, and_from}
 use Rattle.rip_plan.specs.declared.parts.Interface.{Interface}
 use Rattle.rip_plan.specs.declared.parts.OwnPrefix.{OwnPrefix}
 use Rattle.rip_plan.specs.declared.parts.Seat.{Seat}
 use Rattle.rip_plan.specs.declared.parts.Seat.TheVariants.{Link, Own}
 use Rattle.rip_plan.specs.Network.{Network}
-use Rattle.rip_plan.specs.Relations.{Carries, HasCost, IsAttached, IsConnected, IsDirect, IsKept, IsLawful, IsOn, IsOwnWith, IsPlace, Touches}
+use Rattle.rip_plan.specs.Relations.{Carries, HasCost, IsAttached, IsConnected, IsDirect, IsInterface, IsKept, IsLawful, IsOn, IsOwnWith, IsPlace, Touches}
+use Rattle.rip_plan.specs.PrefixNetworks.{exchanges}
+use Rattle.rip_plan.proofs.PrefixNetworkLemmas as nets
+use Rattle.rip_wire.specs.Prefix.{Block}
 use Rattle.rip_check.proofs.PlanLemmas.{its_direct, own_moved}
 use Rattle.rip_check.proofs.TellingLemmas.{IsSound, reached_most}
 use Rattle.rip_check.specs.declared.failures.Failure.{Failure}
 use Rattle.rip_check.specs.declared.failures.Failure.TheVariants as failures
 use Rattle.rip_check.specs.Paths.{Hop, IsLeast, IsPath}
-use Rattle.rip_check.specs.Failures.{is_alive, is_alive_seat, is_any_up, is_link_up, is_router_up, network_left}
+use Rattle.rip_check.specs.Failures.{is_alive, is_alive_seat, is_any_up, is_link_up, is_router_up, left_to, network_left}
+use Rattle.rip_check.specs.Networks.{block_at, network_at}
 
 -- ---- the elements of a list that pass a test
 
@@ -258,17 +262,6 @@ module _ (n : Network) (plan : IsLawful n) where
             let same = one_touch carried.0 h.0 p r on.1.1.interface.direct c _ _ touch (inr (own_moved own h.1)) carried.1 h.1 in
             absurd (link_clash l own.own same)
 
-    -- what is left is sound
-    pub left_sound : IsSound (network_left n f)
-    left_sound = record {
-      costs = λ r l c has. let h = was_cost n f r l c has in plan.cost_least h.0.0 r l c h.0.1;
-      known = λ r l c has. known r l c f (was_cost n f r l c has).0;
-    }
-      where
-        known : (r l c : ℕ) (f : Option Failure) → HasCost n r l c → r < length (network_left n f).routers
-        known r l c None has = plan.router_known has.0 r l c has.1
-        known r l c (Some g) has = plan.router_known has.0 r l c has.1
-
     module _ (r p : ℕ) (o : Option ℕ) (exact : (l : ℕ) → (o ≡ Some l) ↔ IsAttached n r p l) where
       -- the test of the link to which the prefix is attached
       pub attached_up : is_any_up f o ≡ true → (l : ℕ) → IsAttached n r p l → is_link_up f l ≡ true
@@ -328,9 +321,130 @@ path_was n f p up r (h ∷ hops) v path =
     )
 
 -- so no metric is smaller after it
-pub not_nearer : (n : Network) (f : Option Failure) (p : ℕ) → ((s l : ℕ) → IsAttached n s p l → is_link_up f l ≡ true) → (r v w : ℕ) → IsLeast n p r v → IsLeast (network_left n f) p r w → v ≤ w
-not_nearer n f p up r v w before after = go after.reached
+pub never_nearer : (n : Network) (f : Option Failure) (p : ℕ) → ((s l : ℕ) → IsAttached n s p l → is_link_up f l ≡ true) → (r v w : ℕ) → IsLeast n p r v → IsLeast (network_left n f) p r w → v ≤ w
+never_nearer n f p up r v w before after = go after.reached
   where
     go : (w ≡ 16) ⊎ ((w < 16) × ((hops : List Hop) × IsPath (network_left n f) p r hops w)) → v ≤ w
     go (inl e) = omega (arith, e, reached_most n p r v before.reached)
     go (inr h) = before.least h.1.0 w (path_was n f p up r h.1.0 w h.1.1)
+
+-- ---- what is left to a prefix
+
+-- a prefix of the list, by its number
+block_there : (xs : List Block) (p : ℕ) → p < length xs → slice_get xs p ≡ Some (block_at xs p)
+block_there [] p lt = absurd (omega (arith, lt))
+block_there (x ∷ xs) zero lt = refl
+block_there (x ∷ xs) (suc p) lt = block_there xs p (omega (arith, lt))
+
+module _ (n : Network) (plan : IsLawful n) (f : Option Failure) (p : ℕ) where
+  -- whether a link exchanges the prefix
+  abbrev free : ℕ → Bool
+  free = exchanges n (block_at n.prefixes p)
+
+  -- an interface of a router of the plan that is left to the prefix is one of the plan
+  pub cost_own : (r l c : ℕ) → r < length n.routers → HasCost (left_to n f p) r l c →
+      HasCost n r l c × (free l ≡ true) × (is_router_up f r ≡ true) × (is_link_up f l ≡ true)
+  cost_own r l c lt (i, at) =
+      let (its, e) = nets.its_own (network_left n f) free i r l c (omega (arith, lt, left_routers n f)) at in
+      let (was, r_up, l_up) = was_cost n f r l c (i, its) in
+      (was, e, r_up, l_up)
+
+  -- and was one for it before
+  cost_was : (r l c : ℕ) → r < length n.routers → HasCost (left_to n f p) r l c →
+      HasCost (network_at n n.prefixes p) r l c × (free l ≡ true) × (is_router_up f r ≡ true) × (is_link_up f l ≡ true)
+  cost_was r l c lt has =
+      let (was, e, r_up, l_up) = cost_own r l c lt has in
+      ((was.0, nets.stays_interface n free was.0 r l c was.1 e), e, r_up, l_up)
+
+  pub cost_left : (r l c : ℕ) → HasCost n r l c → free l ≡ true → is_router_up f r ≡ true → is_link_up f l ≡ true → HasCost (left_to n f p) r l c
+  cost_left r l c has e r_up l_up =
+      let (i, at) = still_cost n f r l c has r_up l_up in
+      (i, nets.stays_interface (network_left n f) free i r l c at e)
+
+  -- and who has one on a link that exchanges the prefix is a router of the plan
+  pub there_was : (s l c : ℕ) → free l ≡ true → HasCost (left_to n f p) s l c → s < length n.routers
+  there_was s l c e (i, at) =
+      let (q, was, whose) = nets.was_interface (network_left n f) free i s l c at in
+      elim whose [
+        | inl (is, same) ↦
+            let its : IsInterface (network_left n f) i s l c = subst (λ (q : ℕ). IsInterface (network_left n f) i q l c) same was in
+            let has = (was_cost n f s l c (i, its)).0 in
+            plan.router_known has.0 s l c has.1
+        | inr (shut, past) ↦ absurd (both_ways (free l) shut e)
+      ]
+
+  -- a prefix that is carried is exchanged there
+  carrier_free : (l : ℕ) → Carries n l p → free l ≡ true
+  carrier_free l on = nets.carrier_open n plan (block_at n.prefixes p) l p (block_there n.prefixes p (plan.prefix_known on.0 p _ on.1)) on
+
+  -- what a router has, keeps and has attached, for the prefix and without it
+  pub direct_left : (r v : ℕ) → IsDirect (network_left n f) r p v → IsDirect (left_to n f p) r p v
+  direct_left r v (k, inr own) = (k, inr (nets.stays_owned (network_left n f) free k p r v own))
+  direct_left r v (k, inl (l, place, (i, at))) =
+      let (j, is, up) = was_place n f k p _ place in
+      (k, inl (l, nets.stays_carried (network_left n f) free k p l place, (i, nets.stays_connected (network_left n f) free i r l v at (carrier_free l (j, is)))))
+
+  pub direct_own : (r v : ℕ) → r < length n.routers → IsDirect (left_to n f p) r p v → IsDirect (network_left n f) r p v
+  direct_own r v lt direct = nets.was_direct (network_left n f) free r p v (omega (arith, lt, left_routers n f)) direct
+
+  pub kept_left : (r : ℕ) → IsKept (left_to n f p) r p ↔ IsKept (network_left n f) r p
+  kept_left r = (nets.was_kept (network_left n f) free r p, nets.stays_kept (network_left n f) free r p)
+
+  pub attached_own : (r l : ℕ) → IsAttached (left_to n f p) r p l → IsAttached n r p l × (free l ≡ true) × (is_router_up f r ≡ true) × (is_link_up f l ≡ true)
+  attached_own r l at =
+      let (its, e) = nets.was_attached (network_left n f) free r p l at in
+      let (was, r_up, l_up) = was_attached n f r p l its in
+      (was, e, r_up, l_up)
+
+  pub attached_left : (r l : ℕ) → IsAttached n r p l → free l ≡ true → is_router_up f r ≡ true → is_link_up f l ≡ true → IsAttached (left_to n f p) r p l
+  attached_left r l at e r_up l_up = nets.stays_attached (network_left n f) free r p l (still_attached n f r p l at r_up l_up) e
+
+  -- what is left to the prefix is sound
+  pub sound_left : IsSound (left_to n f p)
+  sound_left = record {
+    costs = λ r l c (i, at).
+        let (s, its, whose) = nets.was_interface (network_left n f) free i r l c at in
+        let has = (was_cost n f s l c (i, its)).0 in
+        plan.cost_least has.0 s l c has.1;
+    known = λ r l s lt near.
+        let at : r < length n.routers = omega (arith, lt, left_routers n f) in
+        let mine = cost_own r l near.here.0 at near.here.1 in
+        let there = there_was s l near.there.0 mine.1 near.there.1 in
+        omega (arith, there, left_routers n f);
+  }
+
+  direct_was : (r v : ℕ) → r < length n.routers → IsDirect (left_to n f p) r p v → IsDirect (network_at n n.prefixes p) r p v
+  direct_was r v lt direct =
+      nets.kept_direct n (nets.plan_network n plan) plan.router_known free r p v (λ l on. carrier_free l on) (was_direct n f r p v (direct_own r v lt direct)).0
+
+  -- a path after the failure is one before it, where no router has the prefix attached to what has failed
+  pub path_left : ((s l : ℕ) → IsAttached n s p l → is_link_up f l ≡ true) → (r : ℕ) (hops : List Hop) (v : ℕ) → r < length n.routers →
+      IsPath (left_to n f p) p r hops v → IsPath (network_at n n.prefixes p) p r hops v
+  path_left up r [] v lt direct = direct_was r v lt direct
+  path_left up r (h ∷ hops) v lt path =
+      let own = cost_was r h.link path.0 lt path.2 in
+      let near = path.3.neighbour in
+      let known = there_was h.to h.link near.there.0 own.1 near.there.1 in
+      let there = cost_was h.to h.link near.there.0 known near.there.1 in (
+        path.0,
+        path.1,
+        own.0,
+        record {
+          neighbour = record { other = near.other; here = (path.0, own.0); there = (near.there.0, there.0) };
+          goes_on = λ kept. path.3.goes_on (nets.stays_kept (network_left n f) free r p (still_kept n f r p own.2 (λ l at. up r l at) (nets.was_kept n free r p kept)));
+          tells = λ at.
+              let was = nets.was_attached n free h.to p h.link at in
+              path.3.tells (nets.stays_attached (network_left n f) free h.to p h.link (still_attached n f h.to p h.link was.0 there.2 there.3) was.1);
+        },
+        path_left up h.to hops path.1 known path.4,
+        path.5,
+      )
+
+  -- so no metric is smaller after it
+  pub not_nearer : ((s l : ℕ) → IsAttached n s p l → is_link_up f l ≡ true) → (r v w : ℕ) → r < length n.routers →
+      IsLeast (network_at n n.prefixes p) p r v → IsLeast (left_to n f p) p r w → v ≤ w
+  not_nearer up r v w lt before after = go after.reached
+    where
+      go : (w ≡ 16) ⊎ ((w < 16) × ((hops : List Hop) × IsPath (left_to n f p) p r hops w)) → v ≤ w
+      go (inl e) = omega (arith, e, reached_most (network_at n n.prefixes p) p r v before.reached)
+      go (inr h) = before.least h.1.0 w (path_left up r h.1.0 w lt h.1.1)

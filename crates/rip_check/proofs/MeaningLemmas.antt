@@ -5,9 +5,10 @@ use Rattle.rip_plan.specs.Relations.{IsLawful}
 use Rattle.rip_table.specs.State.{State}
 use Rattle.rip_check.specs.Tables.{Tables, Shows}
 use Rattle.rip_check.specs.Laws.{ShowsRightTables, EachPlaceHolds}
+use Rattle.rip_check.specs.Networks.{network_at}
 use Rattle.rip_check.specs.Settled.{Holds}
 use Rattle.rip_check.specs.Walks.{WalksArrive}
-use Rattle.rip_check.proofs.RouteLemmas.{one_route}
+use Rattle.rip_check.proofs.ReadableLemmas.{one_there}
 use Rattle.rip_check.proofs.JudgingLemmas.{places_are_settled, tables_are_right}
 use Rattle.rip_check.proofs.WalkLemmas.{walks_end, walks_end_there, walks_go_on}
 use Rattle.rip_check.specs.Metrics.{IsInRange}
@@ -39,8 +40,8 @@ module _ (n : Network) (shown : State) (plan : IsLawful n) (range : IsInRange n 
     there = walks_end_there n shown T plan shows holds;
   }
     where
-      holds : (r p : ℕ) → r < length n.routers → p < length shown.prefixes → Holds n shown r p (T r p)
+      holds : (r p : ℕ) → r < length n.routers → p < length shown.prefixes → Holds (network_at n shown.prefixes p) shown r p (T r p)
       holds r p at known =
           let place = (places_are_settled n shown plan right).places r p at known in
-          let e : place.0 ≡ T r p = one_route n plan shown r p place.0 (T r p) at place.1 (shows.fits r p at known) in
+          let e : place.0 ≡ T r p = one_there n plan shown r p place.0 (T r p) at place.1 (shows.fits r p at known) in
           rw e at place.2

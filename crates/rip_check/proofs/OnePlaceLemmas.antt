@@ -3,7 +3,8 @@ use Rattle.std.proofs.Common.{◌≡◌, ◌≢◌, ◌==◌, true, ℕ, ◌<◌
 use Rattle.std.proofs.lemmas.Bool.{cases_lt, cases_eq, eqb-true, eq-eqb}
 use Rattle.std.proofs.lemmas.Option.{same_Some}
 use Rattle.rip_plan.specs.Network.{Network}
-use Rattle.rip_plan.specs.Relations.{IsKept, IsLawful}
+use Rattle.rip_plan.specs.Relations.{IsKept}
+use Rattle.rip_plan.specs.PrefixNetworks.{IsNetwork}
 use Rattle.rip_table.specs.State.{State}
 use Rattle.rip_check.specs.Tables.{Route, IsSilent, Offers}
 use Rattle.rip_check.specs.Settled.{IsChoice, Holds, IsGiven, IsLeastChoice}
@@ -59,7 +60,7 @@ pub is_equation : (n : Network) (shown : State) (r p v : ℕ) (t : Route) → Is
 is_equation n shown r p v t is holds = omega (arith, is.least t.metric holds.choice.chosen, holds.choice.least v is.chosen)
 
 -- a choice is at least 1
-pub choice_low : (n : Network) (shown : State) → IsLawful n → (r p v : ℕ) → IsChoice n shown r p v → 1 ≤ v
+pub choice_low : (n : Network) (shown : State) → IsNetwork n → (r p v : ℕ) → IsChoice n shown r p v → 1 ≤ v
 choice_low n shown plan r p v (inl e) = omega (arith, e)
 choice_low n shown plan r p v (inr (inl d)) = direct_least n plan r p v d
 choice_low n shown plan r p v (inr (inr h)) =

@@ -3,10 +3,12 @@ use Rattle.std.proofs.Common.{◌≡◌, ℕ, ◌⊎◌, ◌↔◌, inl, inr, Op
 use Rattle.std.proofs.lemmas.Bool.{cases_lt}
 use Rattle.rip_plan.specs.Network.{Network}
 use Rattle.rip_plan.specs.Relations.{IsLawful, IsInterface}
+use Rattle.rip_plan.specs.PrefixNetworks.{IsNetwork}
+use Rattle.rip_plan.proofs.PrefixNetworkLemmas.{prefix_network}
 use Rattle.rip_table.specs.State.{State}
-use Rattle.rip_check.specs.Tables.{Route, FitsShown, IsHeard}
+use Rattle.rip_check.specs.Networks.{block_at, network_at}
+use Rattle.rip_check.specs.Tables.{Route, FitsThere, IsHeard}
 use Rattle.rip_check.specs.Laws.{ShowsRightTables}
-use Rattle.rip_check.proofs.RouteLemmas.{one_route}
 use Rattle.rip_check.proofs.JudgingLemmas.{places_are_settled, tables_are_right}
 use Rattle.rip_check.specs.Metrics.{IsInRange}
 use Rattle.rip_check.specs.declared.verdict.Unclear.{Unclear}
@@ -14,12 +16,12 @@ use Rattle.rip_check.specs.declared.verdict.Unclear.TheVariants.{NotHeard, TwoMe
 use Rattle.rip_check.specs.declared.verdict.Place2.{Place2}
 use Rattle.rip_check.specs.declared.verdict.Verdict.{Verdict}
 use Rattle.rip_check.specs.declared.verdict.Verdict.TheVariants.{Settled, Unsettled, Unclear as IsUnclear}
-use Rattle.rip_check.specs.Firsts.{AreFine, IsReadable, IsReason, IsFirstGap, IsFirstUnheard, IsFirstUnclear, IsFirstTrouble, ShowsWhereAttached}
+use Rattle.rip_check.specs.Firsts.{AreFine, CanBeRead, IsCause, IsFirstLoud, IsReason, IsFirstGap, IsFirstUnheard, IsFirstUnclear, IsFirstTrouble, ShowsWhereAttached}
 use Rattle.rip_check.proofs.PlanLemmas.{attached_once}
 use Rattle.rip_check.specs.Verdicts.{ShowsTables, IsSound, IsNextUnsettled, IsVerdict, IsHidden}
 use Rattle.rip_check.proofs.OrderLemmas.{one_first, none_first}
 use Rattle.rip_check.proofs.OwnedLemmas.{its_link}
-use Rattle.rip_check.proofs.ReadableLemmas.{shown_readable, readable_fits}
+use Rattle.rip_check.proofs.ReadableLemmas.{one_there, shown_readable, readable_route}
 use Rattle.rip_check.specs.Settled.{IsLeastChoice}
 
 same_bool : (a b : Bool) (P : Type 0) → (IsTrue a ↔ P) → (IsTrue b ↔ P) → a ≡ b
@@ -55,7 +57,20 @@ one_unheard n shown r l s m a b =
       ]
     ]
 
-module _ (n : Network) (plan : IsLawful n) (shown : State) (r p : ℕ) where
+one_loud : (n : Network) (shown : State) (r p l m : ℕ) → IsFirstLoud n shown r p l → IsFirstLoud n shown r p m → l ≡ m
+one_loud n shown r p l m a b =
+    elim (cases_lt a.interface b.interface) [
+      | inl less ↦ absurd (a.loud (b.before a.interface l a.cost less a.its a.closed))
+      | inr big ↦ elim (cases_lt b.interface a.interface) [
+        | inl less ↦ absurd (b.loud (a.before b.interface m b.cost less b.its b.closed))
+        | inr not ↦
+            let e : a.interface ≡ b.interface = omega arith in
+            let its : IsInterface n b.interface r l a.cost = rw e at a.its in
+            (its_link n b.interface r l a.cost r m b.cost its b.its).1
+      ]
+    ]
+
+module _ (n : Network) (plan : IsNetwork n) (shown : State) (r p : ℕ) where
   no_gap : (l m : ℕ) → IsFirstGap n shown r p l → ShowsWhereAttached n shown r p m → ⊥
   no_gap l m gap on =
       let h = on.1 gap.interface l gap.cost gap.its in
@@ -97,7 +112,7 @@ module _ (n : Network) (shown : State) where
   kind_of (TwoWays r p) h = inr h
 
   pub trouble_from : (u : Unclear) → IsHeard n shown → IsFirstUnclear n shown u → IsFirstTrouble n shown u
-  trouble_from (NotHeard r l) heard h = absurd h.reason
+  trouble_from (NotHeard r l) heard h = elim h.reason [ inl a ↦ let clash : NotHeard r l ≡ ShownOn h.router h.prefix a.0 = a.2 in cc clash | inr b ↦ absurd b.1 ]
   trouble_from (TwoMetrics r p) heard h = (heard, h)
   trouble_from (Missing r p l) heard h = (heard, h)
   trouble_from (ShownOn r p l) heard h = (heard, h)
@@ -107,11 +122,17 @@ module _ (n : Network) (shown : State) where
   not_both r l a heard = a.unheard (heard a.interface r l a.cost a.its)
 
   module _ (plan : IsLawful n) where
+    one_cause : (r p : ℕ) (u v : Unclear) → IsCause n shown r p u → IsCause n shown r p v → u ≡ v
+    one_cause r p u v (inl a) (inl b) = a.2 ∙ ap (ShownOn r p) (one_loud n shown r p a.0 b.0 a.1 b.1) ∙ sym b.2
+    one_cause r p u v (inl a) (inr b) = absurd (a.1.loud (b.0 a.1.interface a.0 a.1.cost a.1.its a.1.closed))
+    one_cause r p u v (inr a) (inl b) = absurd (b.1.loud (a.0 b.1.interface b.0 b.1.cost b.1.its b.1.closed))
+    one_cause r p u v (inr a) (inr b) = one_reason (network_at n shown.prefixes p) (prefix_network n plan (block_at shown.prefixes p)) shown r p u v a.1 b.1
+
     one_unclear : (u v : Unclear) → IsFirstUnclear n shown u → IsFirstUnclear n shown v → u ≡ v
     one_unclear u v a b =
-        let same = one_first n (length shown.prefixes) None (IsReadable n shown) a.router a.prefix b.router b.prefix a.first b.first in
-        let reason : IsReason n shown b.router b.prefix u = rw same.1 at (rw same.0 at a.reason) in
-        one_reason n plan shown b.router b.prefix u v reason b.reason
+        let same = one_first n (length shown.prefixes) None (CanBeRead n shown) a.router a.prefix b.router b.prefix a.first b.first in
+        let reason : IsCause n shown b.router b.prefix u = rw same.1 at (rw same.0 at a.reason) in
+        one_cause b.router b.prefix u v reason b.reason
 
     one_kind : (u v : Unclear) → Kind u → Kind v → u ≡ v
     one_kind u v (inl a) (inl b) = a.2 ∙ (one_unheard n shown a.0 a.1 b.0 b.1 a.3 b.3 ∙ sym b.2)
@@ -127,7 +148,7 @@ module _ (n : Network) (shown : State) where
     no_trouble u tables trouble =
         elim (kind_of u trouble) [
           | inl a ↦ not_both a.0 a.1 a.3 tables.1.heard
-          | inr b ↦ none_first n (length shown.prefixes) None (IsReadable n shown) b.1.router b.1.prefix b.1.first (shown_readable n plan shown range tables)
+          | inr b ↦ none_first n (length shown.prefixes) None (CanBeRead n shown) b.1.router b.1.prefix b.1.first (shown_readable n plan shown range tables)
         ]
 
     pub one_failing : (after : Option (ℕ × ℕ)) (a b : Place2) → IsNextUnsettled n shown after a → IsNextUnsettled n shown after b → a ≡ b
@@ -135,12 +156,13 @@ module _ (n : Network) (shown : State) where
         let same = one_first n (length shown.prefixes) after (IsSound n shown) a.router a.prefix b.router b.prefix h.first k.first in
         let ta : Route = record { metric = a.metric; way = a.way } in
         let tb : Route = record { metric = b.metric; way = b.way } in
-        let fits : FitsShown n shown b.router b.prefix ta = rw same.1 at (rw same.0 at h.values.fits) in
-        let equation : IsLeastChoice n shown b.router b.prefix a.equation = rw same.1 at (rw same.0 at h.values.equation) in
-        let hidden : IsTrue a.hidden ↔ IsHidden n shown b.router b.prefix = rw same.1 at (rw same.0 at h.values.hidden) in
-        let t : ta ≡ tb = one_route n plan shown b.router b.prefix ta tb k.first.router fits k.values.fits in
+        let net = network_at n shown.prefixes b.prefix in
+        let fits : FitsThere n shown b.router b.prefix ta = rw same.1 at (rw same.0 at h.values.fits) in
+        let equation : IsLeastChoice net shown b.router b.prefix a.equation = rw same.1 at (rw same.0 at h.values.equation) in
+        let hidden : IsTrue a.hidden ↔ IsHidden net shown b.router b.prefix = rw same.1 at (rw same.0 at h.values.hidden) in
+        let t : ta ≡ tb = one_there n plan shown b.router b.prefix ta tb k.first.router fits k.values.fits in
         let e : a.equation ≡ b.equation = omega (arith, equation.least b.equation k.values.equation.chosen, k.values.equation.least a.equation equation.chosen) in
-        let f : a.hidden ≡ b.hidden = same_bool a.hidden b.hidden (IsHidden n shown b.router b.prefix) hidden k.values.hidden in
+        let f : a.hidden ≡ b.hidden = same_bool a.hidden b.hidden (IsHidden net shown b.router b.prefix) hidden k.values.hidden in
         λ i. record {
           router = same.0 i;
           prefix = same.1 i;
@@ -157,7 +179,7 @@ module _ (n : Network) (shown : State) where
     not_right f right h =
         let place = (places_are_settled n shown plan right).places f.router f.prefix h.first.router h.first.prefix in
         h.first.fails (λ t fits.
-        let e : place.0 ≡ t = one_route n plan shown f.router f.prefix place.0 t h.first.router place.1 fits in
+        let e : place.0 ≡ t = one_there n plan shown f.router f.prefix place.0 t h.first.router place.1 fits in
         rw e at place.2)
 
     pub one_verdict : (v w : Verdict) → IsVerdict n shown v → IsVerdict n shown w → v ≡ w
@@ -172,11 +194,11 @@ module _ (n : Network) (shown : State) where
     one_verdict (IsUnclear u) (IsUnclear v) h k = ap IsUnclear (one_trouble plan u v h k)
 
     -- where every place is sound the tables are right
-    pub sound_is_right : IsHeard n shown → AreFine n (length shown.prefixes) None (IsReadable n shown) → AreFine n (length shown.prefixes) None (IsSound n shown) → ShowsRightTables n shown
+    pub sound_is_right : IsHeard n shown → AreFine n (length shown.prefixes) None (CanBeRead n shown) → AreFine n (length shown.prefixes) None (IsSound n shown) → ShowsRightTables n shown
     sound_is_right heard readable sound =
         tables_are_right n shown plan (record {
           heard = heard;
           places = λ r p at known.
-              let t = readable_fits n plan shown range r p at (readable r p at known tt) in
+              let t = readable_route n plan shown range r p at (readable r p at known tt) in
               (t.0, t.1, sound r p at known tt t.0 t.1);
         })

@@ -4,7 +4,8 @@ use Rattle.std.specs.List.{Contains}
 use Rattle.std.proofs.lemmas.Bool.{cases_lt}
 use Rattle.rip_plan.specs.declared.parts.Interface.{Interface}
 use Rattle.rip_plan.specs.Network.{Network}
-use Rattle.rip_plan.specs.Relations.{IsAttached, IsLawful, IsInterface, HasCost, IsDirect}
+use Rattle.rip_plan.specs.Relations.{IsAttached, IsInterface, HasCost, IsDirect}
+use Rattle.rip_plan.specs.PrefixNetworks.{IsNetwork}
 use Rattle.rip_check.specs.Paths.{Hop, IsPath, IsLeast, HasPathOver, MayHop}
 use Rattle.rip_check.specs.Tables.{MayHoldBack}
 use Rattle.rip_check.proofs.PlanLemmas.{attached_kept, carried_direct}
@@ -13,11 +14,10 @@ use Rattle.rip_check.specs.declared.way.Way.{Way}
 use Rattle.rip_check.specs.declared.way.Way.TheVariants.{Unreachable, Here, Over}
 use Rattle.rip_check.proofs.AcrossLemmas.{across_place}
 use Rattle.rip_check.proofs.OwnedLemmas.{its_link}
-use Rattle.rip_check.proofs.ShownLemmas.{known_on}
 use Rattle.rip_check.proofs.TellingLemmas.{hops_cost, reached_most}
 
 -- a router has one cost on a link
-pub one_cost : (n : Network) → IsLawful n → (r l c d : ℕ) → HasCost n r l c → HasCost n r l d → c ≡ d
+pub one_cost : (n : Network) → IsNetwork n → (r l c d : ℕ) → HasCost n r l c → HasCost n r l d → c ≡ d
 one_cost n plan r l c d a b =
     let number = plan.one_on_link a.0 b.0 r l c d a.1 b.1 in
     let same : IsInterface n b.0 r l c = rw number at a.1 in
@@ -37,7 +37,7 @@ one_least n p r v w a b = omega (arith, le v w a b, le w v b a)
 pub least_most : (n : Network) (p r v : ℕ) → IsLeast n p r v → v ≤ 16
 least_most n p r v is = reached_most n p r v is.reached
 
-pub least_low : (n : Network) → IsLawful n → (p r v : ℕ) → IsLeast n p r v → 1 ≤ v
+pub least_low : (n : Network) → IsNetwork n → (p r v : ℕ) → IsLeast n p r v → 1 ≤ v
 least_low n plan p r v is = go is.reached
   where
     go : (v ≡ 16) ⊎ ((v < 16) × ((hops : List Hop) × IsPath n p r hops v)) → 1 ≤ v
@@ -53,7 +53,7 @@ path_over n p r l s c v m has near is e small = go is.reached
     go (inr h) = (s, h.1.0, (c, v, has, near, h.1.1, sym e))
 
 -- and where a least path goes over the link, the neighbour's metric and the cost give the metric
-pub over_path : (n : Network) → IsLawful n → (p r l c m : ℕ) → HasCost n r l c → IsLeast n p r m → m < 16 → (o : HasPathOver n p r l m) →
+pub over_path : (n : Network) → IsNetwork n → (p r l c m : ℕ) → HasCost n r l c → IsLeast n p r m → m < 16 → (o : HasPathOver n p r l m) →
     MayHop n p r l o.0 × ((v : ℕ) → IsLeast n p o.0 v → c + v ≡ m)
 over_path n plan p r l c m has is small o = (path.3, sum)
   where
@@ -76,7 +76,7 @@ over_path n plan p r l c m has is small o = (path.3, sum)
             omega (arith, ge, le, path.5, same)
 
 -- no least path begins over a link where the router may hold back its own route
-pub no_way_back : (n : Network) → IsLawful n → (p r l m : ℕ) → IsLeast n p r m → HasPathOver n p r l m → MayHoldBack n r p l → ⊥
+pub no_way_back : (n : Network) → IsNetwork n → (p r l m : ℕ) → IsLeast n p r m → HasPathOver n p r l m → MayHoldBack n r p l → ⊥
 no_way_back n plan p r l m is o held_back = go held_back
   where
     path : IsPath n p r (record { link = l; to = o.0 } ∷ o.1) m
@@ -92,7 +92,7 @@ no_way_back n plan p r l m is o held_back = go held_back
     go (inr attached) = path.3.goes_on (attached_kept n r p l attached)
 
 -- so a way over a link is right where a least path below 16 begins over it
-pub over_expected : (n : Network) → IsLawful n → (p r l m : ℕ) → IsLeast n p r m → m < 16 → HasPathOver n p r l m → IsExpected n r p (record { metric = m; way = Over l })
+pub over_expected : (n : Network) → IsNetwork n → (p r l m : ℕ) → IsLeast n p r m → m < 16 → HasPathOver n p r l m → IsExpected n r p (record { metric = m; way = Over l })
 over_expected n plan p r l m is small o =
     record {
       right = record { least = is; goes = o };
@@ -100,7 +100,7 @@ over_expected n plan p r l m is small o =
     }
 
 -- each least metric has a way
-pub some_way : (n : Network) → IsLawful n → (p r m : ℕ) → IsLeast n p r m → (way : Way) × IsExpected n r p (record { metric = m; way = way })
+pub some_way : (n : Network) → IsNetwork n → (p r m : ℕ) → IsLeast n p r m → (way : Way) × IsExpected n r p (record { metric = m; way = way })
 some_way n plan p r m is = go is.reached
   where
     by : m < 16 → (hops : List Hop) → IsPath n p r hops m → (way : Way) × IsExpected n r p (record { metric = m; way = way })
@@ -132,19 +132,19 @@ module _ (n : Network) (p r l cost m : ℕ) (numbers : List ℕ) (exact : (i : �
       ]
 
   -- where none gives the metric, no least path goes over the link
-  pub none_over : IsLawful n → (k : ℕ) → length numbers ≤ k → HasCost n r l cost → IsLeast n p r m → m < 16 → ((s : ℕ) → s < length n.routers → (v : ℕ) × IsLeast n p s v) →
+  pub none_over : IsNetwork n → r < length n.routers → (k : ℕ) → length numbers ≤ k → HasCost n r l cost → IsLeast n p r m → m < 16 → ((s : ℕ) → s < length n.routers → (v : ℕ) × IsLeast n p s v) →
       ((j s d : ℕ) → j < k → IsInterface n (get_or numbers j 0) s l d → s ≢ r → GivesNot n p l cost m s) → HasPathOver n p r l m → ⊥
-  none_over plan k end has is small metrics none o =
+  none_over plan at_r k end has is small metrics none o =
       let h = over_path n plan p r l cost m has is small o in
       let near = h.0.neighbour in
       let place = across_place n l numbers exact near.there.1.0 o.0 near.there.0 near.there.1.1 in
-      let least = metrics o.0 (known_on n plan o.0 l near.there) in
+      let least = metrics o.0 (plan.neighbour_known r l o.0 at_r near) in
       let at : IsInterface n (get_or numbers place.0 0) o.0 l near.there.0 = rw place.2 near.there.1.1 in
       none place.0 o.0 near.there.0 (omega (arith, place.1, end)) at near.other least.0 least.1 (h.1 least.0 least.1) h.0.tells
 
 -- ---- what decides a way
 
-module _ (n : Network) (plan : IsLawful n) (p r v m : ℕ) (b : Bool) (way : Way) (least : IsLeast n p r v) (is : IsLeast n p r m) (small : v < 16) where
+module _ (n : Network) (plan : IsNetwork n) (p r v m : ℕ) (b : Bool) (way : Way) (least : IsLeast n p r v) (is : IsLeast n p r m) (small : v < 16) where
   same : v ≡ m
   same = one_least n p r v m least is
 

@@ -2,51 +2,61 @@
 use Rattle.std.proofs.Common.{ℕ, ◌<◌, ◌≤◌, Contains, List, [], ◌∷◌, ◌++◌, length, refl, arith}
 use Rattle.rip_plan.specs.Network.{Network}
 use Rattle.rip_plan.specs.Relations.{IsLawful}
+use Rattle.rip_plan.specs.PrefixNetworks.{IsNetwork}
+use Rattle.rip_plan.proofs.PrefixNetworkLemmas.{prefix_network}
 use Rattle.rip_table.specs.State.{State}
 use Rattle.rip_routes.specs.OwnTables.{AreOwnTables, OwnTables, route_at}
 use Rattle.rip_routes.specs.declared.next_hop.NextHop.{NextHop}
 use Rattle.rip_routes.specs.declared.next_hop.NextHop.TheVariants.{Over, Via}
+use Rattle.rip_check.specs.Networks.{block_at, network_at}
 use Rattle.rip_check.specs.OwnTells.{IsToldBy}
 use Rattle.rip_check.specs.OwnSettled.{IsHopGiven, OwnHoldsAll}
 use Rattle.rip_check.specs.OwnWalks.{EachOwnCanGoOn, EachOwnEndsThere, EachOwnGoesOn, EachOwnHasWay, EachOwnIsShort, IsOwnWalk, Means, OwnGoesTo, OwnPacketsArrive}
-use Rattle.rip_check.proofs.ShownLemmas.{known_on}
 use Rattle.rip_check.proofs.OwnRouteLemmas.{route_is}
 use Rattle.rip_check.proofs.OwnOfferLemmas.{own_offer_below}
 
 module _ (n : Network) (told : State) (t : OwnTables) (plan : IsLawful n) (are : AreOwnTables t) (by : IsToldBy n t told) where
-  -- the next router is known, and its metric is less
-  next : (p r s : ℕ) → p < length t.prefixes → (route_at t r p).metric < 16 → OwnGoesTo n told t p r s → (s < length n.routers) × ((route_at t s p).metric < (route_at t r p).metric)
-  next p r s known small g =
-      let e = own_offer_below n told t by r g.link s p (route_at t r p).metric known g.offer small in
-      let least = plan.cost_least g.offer.here.0 r g.link g.offer.cost g.offer.here.1 in
-      (known_on n plan s g.link g.offer.neighbour.there, omega (arith, e.0, least))
+  -- the network of a prefix, and the laws that it keeps
+  abbrev net : ℕ → Network
+  net p = network_at n t.prefixes p
 
-  ends_from : (p r : ℕ) (rest : List ℕ) → p < length t.prefixes → (route_at t r p).metric < 16 → EachOwnGoesOn n told t p r rest →
+  its : (p : ℕ) → IsNetwork (net p)
+  its p = prefix_network n plan (block_at t.prefixes p)
+
+  -- the next router is known, and its metric is less
+  next : (p r s : ℕ) → r < length n.routers → p < length t.prefixes → (route_at t r p).metric < 16 → OwnGoesTo n told t p r s → (s < length n.routers) × ((route_at t s p).metric < (route_at t r p).metric)
+  next p r s at known small g =
+      let s_at = (its p).neighbour_known r g.link s at g.offer.neighbour in
+      let e = own_offer_below n told t by r g.link s p (route_at t r p).metric s_at known g.offer small in
+      let least = (its p).cost_least g.offer.here.0 r g.link g.offer.cost g.offer.here.1 in
+      (s_at, omega (arith, e.0, least))
+
+  ends_from : (p r : ℕ) (rest : List ℕ) → r < length n.routers → p < length t.prefixes → (route_at t r p).metric < 16 → EachOwnGoesOn n told t p r rest →
       length (r ∷ rest) ≤ (route_at t r p).metric
-  ends_from p r [] known small goes = (route_is t are r p).least
-  ends_from p r (s ∷ rest) known small goes =
-      let down = next p r s known small goes.0 in
-      let ih : length (s ∷ rest) ≤ (route_at t s p).metric = ends_from p s rest known (omega (arith, down.1, small)) goes.1 in
+  ends_from p r [] at known small goes = (route_is t are r p).least
+  ends_from p r (s ∷ rest) at known small goes =
+      let down = next p r s at known small goes.0 in
+      let ih : length (s ∷ rest) ≤ (route_at t s p).metric = ends_from p s rest down.0 known (omega (arith, down.1, small)) goes.1 in
       omega (arith, ih, down.1)
 
   short : EachOwnIsShort n told t
   short p r rest known walk =
-      let most = ends_from p r rest known walk.1 walk.2 in
+      let most = ends_from p r rest walk.0 known walk.1 walk.2 in
       (most, omega (arith, most, walk.1))
 
   -- the last router of a walk is known, and its metric is below 16
-  last_from : (p z r : ℕ) (before : List ℕ) → p < length t.prefixes → (route_at t r p).metric < 16 → EachOwnGoesOn n told t p r (before ++ z ∷ []) →
+  last_from : (p z r : ℕ) (before : List ℕ) → r < length n.routers → p < length t.prefixes → (route_at t r p).metric < 16 → EachOwnGoesOn n told t p r (before ++ z ∷ []) →
       (z < length n.routers) × ((route_at t z p).metric < 16)
-  last_from p z r [] known small goes =
-      let down = next p r z known small goes.0 in
+  last_from p z r [] at known small goes =
+      let down = next p r z at known small goes.0 in
       (down.0, omega (arith, down.1, small))
-  last_from p z r (s ∷ before) known small goes =
-      let down = next p r s known small goes.0 in
-      last_from p z s before known (omega (arith, down.1, small)) goes.1
+  last_from p z r (s ∷ before) at known small goes =
+      let down = next p r s at known small goes.0 in
+      last_from p z s before down.0 known (omega (arith, down.1, small)) goes.1
 
   last : (p z : ℕ) (before : List ℕ) → p < length t.prefixes → IsOwnWalk n told t p (before ++ z ∷ []) → (z < length n.routers) × ((route_at t z p).metric < 16)
   last p z [] known walk = (walk.0, walk.1)
-  last p z (r ∷ before) known walk = last_from p z r before known walk.1 walk.2
+  last p z (r ∷ before) known walk = last_from p z r before walk.0 known walk.1 walk.2
 
   -- one step more
   more_from : (p z s r : ℕ) (before : List ℕ) → EachOwnGoesOn n told t p r (before ++ z ∷ []) → OwnGoesTo n told t p z s → EachOwnGoesOn n told t p r (before ++ z ∷ s ∷ [])
@@ -59,7 +69,7 @@ module _ (n : Network) (told : State) (t : OwnTables) (plan : IsLawful n) (are :
 
   module _ (holds : OwnHoldsAll n told t) where
     -- whom a next hop means that gives the metric
-    step_by : (p z : ℕ) (h : NextHop) → Contains (route_at t z p).hops h → IsHopGiven n told z p (route_at t z p).metric h → (l s : ℕ) × Means n z p h l s × OwnGoesTo n told t p z s
+    step_by : (p z : ℕ) (h : NextHop) → Contains (route_at t z p).hops h → IsHopGiven (net p) told z p (route_at t z p).metric h → (l s : ℕ) × Means (net p) z p h l s × OwnGoesTo n told t p z s
     step_by p z (Over l) listed given = (l, given.1.0, refl, record { hop = Over l; listed = listed; link = l; means = refl; offer = given.1.1 })
     step_by p z (Via a) listed given = (given.1.0, given.1.1, given.1.2, record { hop = Via a; listed = listed; link = given.1.0; means = given.1.2; offer = given.1.3 })
 

@@ -6,6 +6,7 @@ use Rattle.rip_plan.specs.Relations.{IsDirect}
 use Rattle.rip_table.specs.State.{State}
 use Rattle.rip_routes.specs.OwnTables.{OwnRoute}
 use Rattle.rip_routes.specs.declared.next_hop.NextHop.{NextHop}
+use Rattle.rip_check.specs.Networks.{network_at}
 use Rattle.rip_check.specs.OwnSettled.{IsHopGiven, OwnHolds}
 use Rattle.rip_check.specs.OwnVerdicts.{IsFirstWrongHop, IsWrong}
 use Rattle.rip_check.specs.Settled.{IsLeastChoice}
@@ -14,7 +15,11 @@ use Rattle.rip_check.specs.Told.{poisons, told, told_of}
 use Rattle.rip_check.specs.declared.own_verdict.Wrong.{Wrong}
 
 module _ (n : Network) (told : State) (r p : ℕ) (route : OwnRoute) where
-  pub wrong_fails : (w : Wrong) → IsWrong n told r p route w → OwnHolds n told r p route → ⊥
+  -- the network of the prefix
+  abbrev net : Network
+  net = network_at n told.prefixes p
+
+  pub wrong_fails : (w : Wrong) → IsWrong n told r p route w → OwnHolds net told r p route → ⊥
   wrong_fails w (inl wrong) holds =
       wrong.2 (omega (arith, wrong.1.least route.metric holds.choice.chosen, holds.choice.least wrong.0 wrong.1.chosen))
   wrong_fails w (inr (choice, inl own)) holds = own.1 (holds.given.here own.0)
@@ -23,13 +28,13 @@ module _ (n : Network) (told : State) (r p : ℕ) (route : OwnRoute) where
       wrong.fails (holds.given.hops wrong.hop listed)
 
   -- the first wrong next hop, or none
-  pub wrong_next : (o : Option Wrong) → IsLeastChoice n told r p route.metric → (route.here ≡ true → IsDirect n r p route.metric) → IfSome o (IsFirstWrongHop n told r p route) →
+  pub wrong_next : (o : Option Wrong) → IsLeastChoice net told r p route.metric → (route.here ≡ true → IsDirect net r p route.metric) → IfSome o (IsFirstWrongHop n told r p route) →
       IfSome o (IsWrong n told r p route)
   wrong_next None choice here wrong = tt
   wrong_next (Some w) choice here wrong = inr (choice, inr (here, wrong))
 
-  pub holds_all : (o : Option Wrong) → IsLeastChoice n told r p route.metric → (route.here ≡ true → IsDirect n r p route.metric) →
-      IfNone o ((h : NextHop) → Contains route.hops h → IsHopGiven n told r p route.metric h) → IfNone o (OwnHolds n told r p route)
+  pub holds_all : (o : Option Wrong) → IsLeastChoice net told r p route.metric → (route.here ≡ true → IsDirect net r p route.metric) →
+      IfNone o ((h : NextHop) → Contains route.hops h → IsHopGiven net told r p route.metric h) → IfNone o (OwnHolds net told r p route)
   holds_all None choice here given = record { choice = choice; given = record { here = here; hops = given } }
   holds_all (Some w) choice here given = tt
 

@@ -10,7 +10,8 @@ use Rattle.rip_plan.specs.declared.parts.Seat.{Seat}
 use Rattle.rip_plan.specs.declared.parts.Seat.TheVariants.{Link, Own}
 use Rattle.rip_plan.specs.declared.parts.Place.{Place}
 use Rattle.rip_plan.specs.Network.{Network}
-use Rattle.rip_plan.specs.Relations.{Carries, HasCost, IsAttached, IsAttachedAt, IsConnected, IsDirect, IsInterface, IsKept, IsLawful, IsOn, IsOwnAt, IsOwnWith, IsPlace, Touches}
+use Rattle.rip_plan.specs.Relations.{Carries, HasCost, IsAttached, IsAttachedAt, IsConnected, IsDirect, IsInterface, IsKept, IsOn, IsOwnAt, IsOwnWith, IsPlace, Touches}
+use Rattle.rip_plan.specs.PrefixNetworks.{IsNetwork}
 use Rattle.rip_check.specs.Tables.{MayHoldBack}
 
 -- a search below a bound
@@ -131,7 +132,7 @@ pub its_direct : (n : Network) (i r l c : ℕ) → (h : IsInterface n i r l c) �
 its_direct n i r l c h = record { interface = h.interface; listed = h.listed; router = h.router; link = h.link; direct = refl }
 
 -- on a link of the prefix a router has it at no more than the link costs it
-pub carried_direct : (n : Network) → IsLawful n → (r l c p : ℕ) → HasCost n r l c → Carries n l p → (d : ℕ) × IsDirect n r p d × (d ≤ c)
+pub carried_direct : (n : Network) → IsNetwork n → (r l c p : ℕ) → HasCost n r l c → Carries n l p → (d : ℕ) × IsDirect n r p d × (d ≤ c)
 carried_direct n plan r l c p has on =
     let there = its_direct n has.0 r l c has.1 in
     (has.1.interface.direct, (on.0, inl (l, on.1, (has.0, there))), plan.direct_most has.0 r l c has.1.interface.direct has.1 there)
@@ -144,7 +145,7 @@ pub kept_own : (n : Network) (r p : ℕ) → IsKept n r p → (k c : ℕ) × IsO
 kept_own n r p (inl h) = (h.0, h.1.own.cost, own_says h.1 refl)
 kept_own n r p (inr h) = (h.1.0, h.1.1.own.cost, own_says h.1.1 refl)
 
-module _ (n : Network) (plan : IsLawful n) where
+module _ (n : Network) (plan : IsNetwork n) where
   -- a router on a link of the prefix does not keep it
   pub not_kept_there : (r l p : ℕ) → IsOn n r l → Carries n l p → IsKept n r p → ⊥
   not_kept_there r l p on carried kept =

@@ -1,13 +1,17 @@
 -- Routes that a log shows, told as the routers' own.
-use Rattle.std.proofs.Common.{◌≡◌, ◌≢◌, ℕ, zero, suc, ◌+◌, ◌<◌, ◌⊎◌, inl, inr, min, unwrap_or, true, Contains, get_or, slice_get, Option, None, Some, [], ◌∷◌, length, refl, sym, ap, subst, ◌∙◌, arith}
+use Rattle.std.proofs.Common.{◌≡◌, ◌≢◌, ℕ, zero, suc, ◌+◌, ◌<◌, ◌⊎◌, inl, inr, min, unwrap_or, true, Contains, get_or, slice_get, Option, None, Some, List, [], ◌∷◌, length, refl, sym, ap, subst, ◌∙◌, arith}
+use Rattle.rip_wire.specs.Prefix.{Block}
 use Rattle.rip_plan.specs.Network.{Network}
 use Rattle.rip_plan.specs.Relations.{Carries, IsAttached, IsDirect, IsInterface, IsLawful}
+use Rattle.rip_plan.specs.PrefixNetworks.{IsNetwork}
+use Rattle.rip_plan.proofs.PrefixNetworkLemmas.{prefix_network}
 use Rattle.rip_table.specs.State.{State}
 use Rattle.rip_routes.specs.OwnTables.{OwnRoute, OwnTables, route_at}
 use Rattle.rip_routes.specs.declared.next_hop.NextHop.{NextHop}
 use Rattle.rip_routes.specs.declared.next_hop.NextHop.TheVariants.{Over as IsOver}
 use Rattle.rip_check.specs.Laws.{ShowsRightTables}
 use Rattle.rip_check.specs.Metrics.{metric_at}
+use Rattle.rip_check.specs.Networks.{block_at, network_at}
 use Rattle.rip_check.specs.Firsts.{IsBefore, IsFirst}
 use Rattle.rip_check.specs.OwnLaws.{AreRightAlike, HaveOneEquation, HoldAlike, IsSamePlace, NameAlike, RoundTrip, TellsRoutes, own_by, own_of, wrong_way}
 use Rattle.rip_check.specs.OwnSettled.{AreRightTables, HopGoesRight, IsEachGiven, IsHopGiven, IsOwnRight, OwnHolds}
@@ -24,8 +28,8 @@ use Rattle.rip_check.specs.declared.way.Way.{Way}
 use Rattle.rip_check.specs.declared.way.Way.TheVariants.{Unreachable, Here, Over}
 use Rattle.rip_check.proofs.OrderLemmas.{one_first}
 use Rattle.rip_check.proofs.PlanLemmas.{carried_direct, direct_most}
-use Rattle.rip_check.proofs.RouteLemmas.{one_route}
-use Rattle.rip_check.proofs.ShownLemmas.{known_on, metric_least, silent_is_16, some_is}
+use Rattle.rip_check.proofs.ReadableLemmas.{one_there}
+use Rattle.rip_check.proofs.ShownLemmas.{metric_least, silent_is_16, some_is}
 
 none_listed : (h : NextHop) → Contains [] h → ⊥
 none_listed h listed = omega (arith, listed.1)
@@ -79,23 +83,34 @@ one_telling n s l p m (Over k) x (Some v) fits (inl h) tells = absurd (tells.0 (
 one_telling n s l p m (Over k) x (Some v) fits (inr h) tells = inl (tells.1 ∙ sym (some_is x m h.1))
 
 module _ (n : Network) (shown : State) (T : Tables) (plan : IsLawful n) (shows : Shows n shown T) (t : OwnTables) (told : State) (tells : TellsRoutes n shown T t) (by : IsToldBy n t told) where
+  -- the network of a prefix, and the laws that it keeps
+  abbrev net : ℕ → Network
+  net p = network_at n shown.prefixes p
+
+  its : (p : ℕ) → IsNetwork (net p)
+  its p = prefix_network n plan (block_at shown.prefixes p)
+
   known_there : (p : ℕ) → p < length t.prefixes → p < length shown.prefixes
   known_there p known = rw tells.prefixes at known
 
+  tells_at : (j s l d p : ℕ) → s < length n.routers → p < length t.prefixes → IsInterface (net p) j s l d → TellsThere (net p) t s l p (metric_at told j p)
+  tells_at j s l d p at known there =
+      subst (λ (b : List Block). TellsThere (network_at n b p) t s l p (metric_at told j p)) tells.prefixes
+      (by.tells j s l d p at known (subst (λ (b : List Block). IsInterface (network_at n b p) j s l d) (sym tells.prefixes) there))
+
   -- what an interface shows and tells
-  both : (j s l d p : ℕ) → IsInterface n j s l d → p < length t.prefixes → IsOneTelling n l p (T s p).metric (metric_at shown j p) (metric_at told j p)
-  both j s l d p there known =
-      let at = plan.router_known j s l d there in
-      let fits = (shows.fits s p at (known_there p known)).told in
-      let here = tells_by n t s l p (metric_at told j p) (by.tells j s l d p there known) in
-      let here' : TellsBy n s l p (own_of (T s p)) (metric_at told j p) =
-      subst (λ (x : OwnRoute). TellsBy n s l p x (metric_at told j p)) (tells.routes s p at known) here in
-      one_telling n s l p (T s p).metric (T s p).way (metric_at shown j p) (metric_at told j p) fits.way_fits (fits.as_told j l d there) here'
+  both : (j s l d p : ℕ) → s < length n.routers → IsInterface (net p) j s l d → p < length t.prefixes → IsOneTelling (net p) l p (T s p).metric (metric_at shown j p) (metric_at told j p)
+  both j s l d p at there known =
+      let fits = (shows.fits s p at (known_there p known)).fits.told in
+      let here = tells_by (net p) t s l p (metric_at told j p) (tells_at j s l d p at known there) in
+      let here' : TellsBy (net p) s l p (own_of (T s p)) (metric_at told j p) =
+      subst (λ (x : OwnRoute). TellsBy (net p) s l p x (metric_at told j p)) (tells.routes s p at known) here in
+      one_telling (net p) s l p (T s p).metric (T s p).way (metric_at shown j p) (metric_at told j p) fits.way_fits (fits.as_told j l d there) here'
 
   -- an offer by the routers' own tables is one of the log, or the router has the prefix itself for less
-  told_offer : (r l s p v : ℕ) → p < length t.prefixes → Offers n told r l s p v → Offers n shown r l s p v ⊎ ((d : ℕ) × IsDirect n r p d × (d < v))
-  told_offer r l s p v known o =
-      elim (both o.interface s l o.its_cost p o.there known) [
+  told_offer : (r l s p v : ℕ) → r < length n.routers → p < length t.prefixes → Offers (net p) told r l s p v → Offers (net p) shown r l s p v ⊎ ((d : ℕ) × IsDirect (net p) r p d × (d < v))
+  told_offer r l s p v at known o =
+      elim (both o.interface s l o.its_cost p ((its p).neighbour_known r l s at o.neighbour) o.there known) [
         | inl e ↦ inl (record {
           neighbour = o.neighbour;
           cost = o.cost;
@@ -106,17 +121,17 @@ module _ (n : Network) (shown : State) (T : Tables) (plan : IsLawful n) (shows :
           value = o.value ∙ ap (λ (x : ℕ). min 16 (o.cost + x)) e;
         })
         | inr h ↦
-            let direct = carried_direct n plan r l o.cost p o.here h.0 in
-            let at = known_on n plan s l o.neighbour.there in
-            let least = metric_least n s p (T s p).metric (T s p).way (shows.fits s p at (known_there p known)).told.way_fits in
-            let most = direct_most n plan r p direct.0 direct.1 in
+            let direct = carried_direct (net p) (its p) r l o.cost p o.here h.0 in
+            let s_at = (its p).neighbour_known r l s at o.neighbour in
+            let least = metric_least (net p) s p (T s p).metric (T s p).way (shows.fits s p s_at (known_there p known)).fits.told.way_fits in
+            let most = direct_most (net p) (its p) r p direct.0 direct.1 in
             inr (direct.0, direct.1, omega (arith, direct.2, least, most, o.value, h.2))
       ]
 
   -- an offer of the log is one by the routers' own tables, or 16
-  shown_offer : (r l s p v : ℕ) → p < length t.prefixes → Offers n shown r l s p v → Offers n told r l s p v ⊎ (v ≡ 16)
-  shown_offer r l s p v known o =
-      elim (both o.interface s l o.its_cost p o.there known) [
+  shown_offer : (r l s p v : ℕ) → r < length n.routers → p < length t.prefixes → Offers (net p) shown r l s p v → Offers (net p) told r l s p v ⊎ (v ≡ 16)
+  shown_offer r l s p v at known o =
+      elim (both o.interface s l o.its_cost p ((its p).neighbour_known r l s at o.neighbour) o.there known) [
         | inl e ↦ inl (record {
           neighbour = o.neighbour;
           cost = o.cost;
@@ -129,127 +144,131 @@ module _ (n : Network) (shown : State) (T : Tables) (plan : IsLawful n) (shows :
         | inr h ↦ inr (omega (arith, o.value, h.1))
       ]
 
-  told_choice : (r p v : ℕ) → p < length t.prefixes → IsChoice n told r p v → IsChoice n shown r p v ⊎ ((d : ℕ) × IsDirect n r p d × (d < v))
-  told_choice r p v known (inl e) = inl (inl e)
-  told_choice r p v known (inr (inl direct)) = inl (inr (inl direct))
-  told_choice r p v known (inr (inr h)) =
-      elim (told_offer r h.1.0 h.1.1 p v known h.1.2) [
+  told_choice : (r p v : ℕ) → r < length n.routers → p < length t.prefixes → IsChoice (net p) told r p v → IsChoice (net p) shown r p v ⊎ ((d : ℕ) × IsDirect (net p) r p d × (d < v))
+  told_choice r p v at known (inl e) = inl (inl e)
+  told_choice r p v at known (inr (inl direct)) = inl (inr (inl direct))
+  told_choice r p v at known (inr (inr h)) =
+      elim (told_offer r h.1.0 h.1.1 p v at known h.1.2) [
         | inl o ↦ inl (inr (inr (h.0, (h.1.0, h.1.1, o))))
         | inr less ↦ inr less
       ]
 
-  shown_choice : (r p v : ℕ) → p < length t.prefixes → IsChoice n shown r p v → IsChoice n told r p v
-  shown_choice r p v known (inl e) = inl e
-  shown_choice r p v known (inr (inl direct)) = inr (inl direct)
-  shown_choice r p v known (inr (inr h)) =
-      elim (shown_offer r h.1.0 h.1.1 p v known h.1.2) [
+  shown_choice : (r p v : ℕ) → r < length n.routers → p < length t.prefixes → IsChoice (net p) shown r p v → IsChoice (net p) told r p v
+  shown_choice r p v at known (inl e) = inl e
+  shown_choice r p v at known (inr (inl direct)) = inr (inl direct)
+  shown_choice r p v at known (inr (inr h)) =
+      elim (shown_offer r h.1.0 h.1.1 p v at known h.1.2) [
         | inl o ↦ inr (inr (h.0, (h.1.0, h.1.1, o)))
         | inr e ↦ inl e
       ]
 
-  told_least : (r p v : ℕ) → p < length t.prefixes → IsLeastChoice n told r p v → IsLeastChoice n shown r p v
-  told_least r p v known least = record {
-    chosen = elim (told_choice r p v known least.chosen) [
+  told_least : (r p v : ℕ) → r < length n.routers → p < length t.prefixes → IsLeastChoice (net p) told r p v → IsLeastChoice (net p) shown r p v
+  told_least r p v at known least = record {
+    chosen = elim (told_choice r p v at known least.chosen) [
       | inl chosen ↦ chosen
       | inr less ↦ absurd (omega (arith, least.least less.0 (inr (inl less.1)), less.2))
     ];
-    least = λ w choice. least.least w (shown_choice r p w known choice);
+    least = λ w choice. least.least w (shown_choice r p w at known choice);
   }
 
-  shown_least : (r p v : ℕ) → p < length t.prefixes → IsLeastChoice n shown r p v → IsLeastChoice n told r p v
-  shown_least r p v known least = record {
-    chosen = shown_choice r p v known least.chosen;
-    least = λ w choice. elim (told_choice r p w known choice) [
+  shown_least : (r p v : ℕ) → r < length n.routers → p < length t.prefixes → IsLeastChoice (net p) shown r p v → IsLeastChoice (net p) told r p v
+  shown_least r p v at known least = record {
+    chosen = shown_choice r p v at known least.chosen;
+    least = λ w choice. elim (told_choice r p w at known choice) [
       | inl other ↦ least.least w other
       | inr less ↦ omega (arith, least.least less.0 (inr (inl less.1)), less.2)
     ];
   }
 
   -- each way of the route gives its metric by the one exactly where it does by the other
-  told_given : (r p m : ℕ) (w : Way) → p < length t.prefixes → IsLeastChoice n told r p m → IsEachGiven n told r p (own_by m w) → IsGiven n shown r p m w
-  told_given r p m Unreachable known least given = tt
-  told_given r p m Here known least given = given.here refl
-  told_given r p m (Over l) known least given =
+  told_given : (r p m : ℕ) (w : Way) → r < length n.routers → p < length t.prefixes → IsLeastChoice (net p) told r p m → IsEachGiven (net p) told r p (own_by m w) → IsGiven (net p) shown r p m w
+  told_given r p m Unreachable at known least given = tt
+  told_given r p m Here at known least given = given.here refl
+  told_given r p m (Over l) at known least given =
       let hop = given.hops (IsOver l) (one_listed (IsOver l)) in
-      elim (told_offer r l hop.1.0 p m known hop.1.1) [
+      elim (told_offer r l hop.1.0 p m at known hop.1.1) [
         | inl o ↦ (hop.0, (hop.1.0, o))
         | inr less ↦ absurd (omega (arith, least.least less.0 (inr (inl less.1)), less.2))
       ]
 
-  shown_given : (r p m : ℕ) (w : Way) → p < length t.prefixes → FitsWay n r p m w → IsGiven n shown r p m w → IsEachGiven n told r p (own_by m w)
-  shown_given r p m Unreachable known fits given = record { here = λ is. absurd (cc is); hops = λ h listed. absurd (none_listed h listed) }
-  shown_given r p m Here known fits given = record { here = λ is. given; hops = λ h listed. absurd (none_listed h listed) }
-  shown_given r p m (Over l) known fits given = record { here = λ is. absurd (cc is); hops = λ h listed. by_hop h (the_one (IsOver l) h listed) }
+  shown_given : (r p m : ℕ) (w : Way) → r < length n.routers → p < length t.prefixes → FitsWay (net p) r p m w → IsGiven (net p) shown r p m w → IsEachGiven (net p) told r p (own_by m w)
+  shown_given r p m Unreachable at known fits given = record { here = λ is. absurd (cc is); hops = λ h listed. absurd (none_listed h listed) }
+  shown_given r p m Here at known fits given = record { here = λ is. given; hops = λ h listed. absurd (none_listed h listed) }
+  shown_given r p m (Over l) at known fits given = record { here = λ is. absurd (cc is); hops = λ h listed. by_hop h (the_one (IsOver l) h listed) }
     where
-      over : IsHopGiven n told r p m (IsOver l)
-      over = elim (shown_offer r l given.1.0 p m known given.1.1) [
+      over : IsHopGiven (net p) told r p m (IsOver l)
+      over = elim (shown_offer r l given.1.0 p m at known given.1.1) [
         | inl o ↦ (given.0, (given.1.0, o))
         | inr e ↦ absurd (omega (arith, e, fits.1))
       ]
 
-      by_hop : (h : NextHop) → h ≡ IsOver l → IsHopGiven n told r p m h
-      by_hop h is = subst (λ (x : NextHop). IsHopGiven n told r p m x) (sym is) over
+      by_hop : (h : NextHop) → h ≡ IsOver l → IsHopGiven (net p) told r p m h
+      by_hop h is = subst (λ (x : NextHop). IsHopGiven (net p) told r p m x) (sym is) over
 
-  own_holds : (r p : ℕ) → r < length n.routers → p < length t.prefixes → Holds n shown r p (T r p) → OwnHolds n told r p (own_of (T r p))
+  own_holds : (r p : ℕ) → r < length n.routers → p < length t.prefixes → Holds (net p) shown r p (T r p) → OwnHolds (net p) told r p (own_of (T r p))
   own_holds r p at known holds = record {
     choice = own_choice (T r p).way;
-    given = shown_given r p (T r p).metric (T r p).way known (shows.fits r p at (known_there p known)).told.way_fits holds.given;
+    given = shown_given r p (T r p).metric (T r p).way at known (shows.fits r p at (known_there p known)).fits.told.way_fits holds.given;
   }
     where
-      own_choice : (w : Way) → IsLeastChoice n told r p (own_by (T r p).metric w).metric
-      own_choice Unreachable = shown_least r p (T r p).metric known holds.choice
-      own_choice Here = shown_least r p (T r p).metric known holds.choice
-      own_choice (Over l) = shown_least r p (T r p).metric known holds.choice
+      own_choice : (w : Way) → IsLeastChoice (net p) told r p (own_by (T r p).metric w).metric
+      own_choice Unreachable = shown_least r p (T r p).metric at known holds.choice
+      own_choice Here = shown_least r p (T r p).metric at known holds.choice
+      own_choice (Over l) = shown_least r p (T r p).metric at known holds.choice
 
-  log_holds : (r p : ℕ) → p < length t.prefixes → OwnHolds n told r p (own_of (T r p)) → Holds n shown r p (T r p)
-  log_holds r p known holds =
+  log_holds : (r p : ℕ) → r < length n.routers → p < length t.prefixes → OwnHolds (net p) told r p (own_of (T r p)) → Holds (net p) shown r p (T r p)
+  log_holds r p at known holds =
       let least = choice_by (T r p).way holds.choice in
-      record { choice = told_least r p (T r p).metric known least; given = told_given r p (T r p).metric (T r p).way known least holds.given }
+      record { choice = told_least r p (T r p).metric at known least; given = told_given r p (T r p).metric (T r p).way at known least holds.given }
     where
-      choice_by : (w : Way) → IsLeastChoice n told r p (own_by (T r p).metric w).metric → IsLeastChoice n told r p (T r p).metric
+      choice_by : (w : Way) → IsLeastChoice (net p) told r p (own_by (T r p).metric w).metric → IsLeastChoice (net p) told r p (T r p).metric
       choice_by Unreachable choice = choice
       choice_by Here choice = choice
       choice_by (Over l) choice = choice
 
   pub own_sound : (r p : ℕ) → r < length n.routers → p < length t.prefixes → IsOwnSound n told t r p → IsSound n shown r p
   own_sound r p at known sound =
-      let holds : OwnHolds n told r p (own_of (T r p)) = subst (λ (x : OwnRoute). OwnHolds n told r p x) (tells.routes r p at known) sound in
-      let here = log_holds r p known holds in
-      λ u fits. subst (λ (x : Route). Holds n shown r p x) (one_route n plan shown r p (T r p) u at (shows.fits r p at (known_there p known)) fits) here
+      let holds : OwnHolds (net p) told r p (own_of (T r p)) = subst (λ (x : OwnRoute). OwnHolds (net p) told r p x) (tells.routes r p at known)
+      (subst (λ (b : List Block). OwnHolds (network_at n b p) told r p (route_at t r p)) tells.prefixes sound) in
+      let here = log_holds r p at known holds in
+      λ u fits. subst (λ (x : Route). Holds (net p) shown r p x) (one_there n plan shown r p (T r p) u at (shows.fits r p at (known_there p known)) fits) here
 
   pub sound_own : (r p : ℕ) → r < length n.routers → p < length t.prefixes → IsSound n shown r p → IsOwnSound n told t r p
   sound_own r p at known sound =
-      subst (λ (x : OwnRoute). OwnHolds n told r p x) (sym (tells.routes r p at known)) (own_holds r p at known (sound (T r p) (shows.fits r p at (known_there p known))))
+      subst (λ (b : List Block). OwnHolds (network_at n b p) told r p (route_at t r p)) (sym tells.prefixes)
+      (subst (λ (x : OwnRoute). OwnHolds (net p) told r p x) (sym (tells.routes r p at known)) (own_holds r p at known (sound (T r p) (shows.fits r p at (known_there p known)))))
 
-  right_by : (r p : ℕ) (w : Way) → IsOwnRight n r p (own_by (T r p).metric w) → IsRight n r p (record { metric = (T r p).metric; way = w })
+  right_by : (r p : ℕ) (w : Way) → IsOwnRight (net p) r p (own_by (T r p).metric w) → IsRight (net p) r p (record { metric = (T r p).metric; way = w })
   right_by r p Unreachable right = record { least = right.least; goes = tt }
   right_by r p Here right = record { least = right.least; goes = right.here refl }
   right_by r p (Over l) right = record { least = right.least; goes = right.hops (IsOver l) (one_listed (IsOver l)) }
 
-  by_right : (r p : ℕ) (w : Way) → IsRight n r p (record { metric = (T r p).metric; way = w }) → IsOwnRight n r p (own_by (T r p).metric w)
+  by_right : (r p : ℕ) (w : Way) → IsRight (net p) r p (record { metric = (T r p).metric; way = w }) → IsOwnRight (net p) r p (own_by (T r p).metric w)
   by_right r p Unreachable right = record { least = right.least; here = λ is. absurd (cc is); hops = λ h listed. absurd (none_listed h listed) }
   by_right r p Here right = record { least = right.least; here = λ is. right.goes; hops = λ h listed. absurd (none_listed h listed) }
   by_right r p (Over l) right = record {
     least = right.least;
     here = λ is. absurd (cc is);
-    hops = λ h listed. subst (λ (x : NextHop). HopGoesRight n p r (T r p).metric x) (sym (the_one (IsOver l) h listed)) right.goes;
+    hops = λ h listed. subst (λ (x : NextHop). HopGoesRight (net p) p r (T r p).metric x) (sym (the_one (IsOver l) h listed)) right.goes;
   }
 
   pub own_shows : AreRightTables n t → ShowsRightTables n shown
   own_shows own = (T, shows, λ r p at known. right_at r p at (rw (sym tells.prefixes) at known))
     where
-      right_at : (r p : ℕ) → r < length n.routers → p < length t.prefixes → IsRight n r p (T r p)
-      right_at r p at known = right_by r p (T r p).way (subst (λ (x : OwnRoute). IsOwnRight n r p x) (tells.routes r p at known) (own.right r p at known))
+      right_at : (r p : ℕ) → r < length n.routers → p < length t.prefixes → IsRight (net p) r p (T r p)
+      right_at r p at known = right_by r p (T r p).way (subst (λ (x : OwnRoute). IsOwnRight (net p) r p x) (tells.routes r p at known)
+          (subst (λ (b : List Block). IsOwnRight (network_at n b p) r p (route_at t r p)) tells.prefixes (own.right r p at known)))
 
   pub shows_own : ShowsRightTables n shown → AreRightTables n t
   shows_own h = record { listed = tells.listed; right = right_at }
     where
-      right_at : (r p : ℕ) → r < length n.routers → p < length t.prefixes → IsOwnRight n r p (route_at t r p)
+      right_at : (r p : ℕ) → r < length n.routers → p < length t.prefixes → IsOwnRight (network_at n t.prefixes p) r p (route_at t r p)
       right_at r p at known =
           let there = known_there p known in
-          let e : h.0 r p ≡ T r p = one_route n plan shown r p (h.0 r p) (T r p) at (h.1.fits r p at there) (shows.fits r p at there) in
-          let right : IsRight n r p (T r p) = subst (λ (x : Route). IsRight n r p x) e (h.2 r p at there) in
-          subst (λ (x : OwnRoute). IsOwnRight n r p x) (sym (tells.routes r p at known)) (by_right r p (T r p).way right)
+          let e : h.0 r p ≡ T r p = one_there n plan shown r p (h.0 r p) (T r p) at (h.1.fits r p at there) (shows.fits r p at there) in
+          let right : IsRight (net p) r p (T r p) = subst (λ (x : Route). IsRight (net p) r p x) e (h.2 r p at there) in
+          subst (λ (b : List Block). IsOwnRight (network_at n b p) r p (route_at t r p)) (sym tells.prefixes)
+          (subst (λ (x : OwnRoute). IsOwnRight (net p) r p x) (sym (tells.routes r p at known)) (by_right r p (T r p).way right))
 
   -- the metric that is told is that of the route
   own_metric : (m : ℕ) (w : Way) → (own_by m w).metric ≡ m
@@ -258,7 +277,7 @@ module _ (n : Network) (shown : State) (T : Tables) (plan : IsLawful n) (shows :
   own_metric m (Over l) = refl
 
   -- who is least is one
-  one_least : (r p v w : ℕ) → IsLeastChoice n shown r p v → IsLeastChoice n shown r p w → v ≡ w
+  one_least : (r p v w : ℕ) → IsLeastChoice (net p) shown r p v → IsLeastChoice (net p) shown r p w → v ≡ w
   one_least r p v w least other = omega (arith, least.least w other.chosen, other.least v least.chosen)
 
   nothing_listed : (i : ℕ) (h : NextHop) → slice_get [] i ≡ Some h → ⊥
@@ -279,18 +298,21 @@ module _ (n : Network) (shown : State) (T : Tables) (plan : IsLawful n) (shows :
       by_hop : (h : NextHop) → IsOver l ≡ h → IsWrongHop n r p h wrong → wrong ≡ wrongs.Over l
       by_hop h is at = subst (λ (x : NextHop). IsWrongHop n r p x wrong) (sym is) at
 
+  choice_there : (r p v : ℕ) → IsLeastChoice (network_at n told.prefixes p) told r p v → IsLeastChoice (net p) told r p v
+  choice_there r p v least = subst (λ (b : List Block). IsLeastChoice (network_at n b p) told r p v) (by.prefixes ∙ tells.prefixes) least
+
   -- what is wrong at a place, by both
-  wrong_at : (r p m e : ℕ) (w : Way) (wrong : Wrong) → p < length t.prefixes → (Holds n shown r p (record { metric = m; way = w }) → ⊥) → IsLeastChoice n shown r p e
+  wrong_at : (r p m e : ℕ) (w : Way) (wrong : Wrong) → r < length n.routers → p < length t.prefixes → (Holds (net p) shown r p (record { metric = m; way = w }) → ⊥) → IsLeastChoice (net p) shown r p e
       → IsWrong n told r p (own_by m w) wrong → ((m ≢ e) × (wrong ≡ wrongs.Metric e)) ⊎ ((m ≡ e) × (wrong ≡ wrong_way w))
-  wrong_at r p m e w wrong known fails least (inl h) =
-      let same : h.0 ≡ e = one_least r p h.0 e (told_least r p h.0 known h.1) least in
+  wrong_at r p m e w wrong at known fails least (inl h) =
+      let same : h.0 ≡ e = one_least r p h.0 e (told_least r p h.0 at known (choice_there r p h.0 h.1)) least in
       inl (λ is. h.2 (own_metric m w ∙ is ∙ sym same), h.3 ∙ ap wrongs.Metric same)
-  wrong_at r p m e w wrong known fails least (inr h) =
-      let own : IsLeastChoice n told r p m = rw (own_metric m w) at h.0 in
-      let here : IsLeastChoice n shown r p m = told_least r p m known own in
+  wrong_at r p m e w wrong at known fails least (inr h) =
+      let own : IsLeastChoice (net p) told r p m = choice_there r p m (rw (own_metric m w) at h.0) in
+      let here : IsLeastChoice (net p) shown r p m = told_least r p m at known own in
       inr (one_least r p m e here least, way_wrong r p m w wrong (λ is. fails (unreachable_holds here w is)) h.1)
     where
-      unreachable_holds : IsLeastChoice n shown r p m → (x : Way) → x ≡ Unreachable → Holds n shown r p (record { metric = m; way = x })
+      unreachable_holds : IsLeastChoice (net p) shown r p m → (x : Way) → x ≡ Unreachable → Holds (net p) shown r p (record { metric = m; way = x })
       unreachable_holds here Unreachable is = record { choice = here; given = tt }
       unreachable_holds here Here is = absurd (cc is)
       unreachable_holds here (Over l) is = absurd (cc is)
@@ -323,7 +345,7 @@ module _ (n : Network) (shown : State) (T : Tables) (plan : IsLawful n) (shows :
           let r = place.router in
           let p = place.prefix in
           let route : Route = record { metric = place.metric; way = place.way } in
-          let e : T r p ≡ route = one_route n plan shown r p (T r p) route at (shows.fits r p at (known_there p known)) log.fits in
+          let e : T r p ≡ route = one_there n plan shown r p (T r p) route at (shows.fits r p at (known_there p known)) log.fits in
           let told_as : route_at t own.router own.prefix ≡ own_by place.metric place.way =
           ap (λ (x : ℕ). route_at t x own.prefix) router ∙ ap (λ (x : ℕ). route_at t r x) prefix ∙ tells.routes r p at known ∙ ap own_of e in
           let fails : IsWrong n told r p (own_by place.metric place.way) own.wrong =
@@ -334,14 +356,14 @@ module _ (n : Network) (shown : State) (T : Tables) (plan : IsLawful n) (shows :
             router = router;
             prefix = prefix;
             metric = is.metric ∙ ap (λ (x : OwnRoute). x.metric) told_as ∙ own_metric place.metric place.way;
-            wrong = wrong_at r p place.metric place.equation place.way own.wrong known log.fails log.equation fails;
+            wrong = wrong_at r p place.metric place.equation place.way own.wrong at known log.fails log.equation fails;
           }
 
 module _ (k : RoundTrip) where
   pub one_equation : HaveOneEquation k
   one_equation r p v at known = (
-    told_least k.log.net k.log.shown k.log.tables k.log.plan k.log.shows k.own k.told k.tells k.by r p v known,
-    shown_least k.log.net k.log.shown k.log.tables k.log.plan k.log.shows k.own k.told k.tells k.by r p v known,
+    told_least k.log.net k.log.shown k.log.tables k.log.plan k.log.shows k.own k.told k.tells k.by r p v at known,
+    shown_least k.log.net k.log.shown k.log.tables k.log.plan k.log.shows k.own k.told k.tells k.by r p v at known,
   )
 
   pub hold_alike : HoldAlike k

@@ -1,14 +1,15 @@
 -- What is shown tells of the routes: never two sets of tables, and one set where each place has a route that fits.
 use Rattle.std.proofs.Common.{◌≡◌, ◌≢◌, ℕ, length, slice_get, ◌<◌, ◌≤◌, ◌⊎◌, inl, inr, Option, None, Some, unwrap_or, refl, sym, ◌∙◌, ap, arith}
-use Rattle.rip_plan.proofs.LookupLemmas.{direct_once}
+use Rattle.rip_plan.proofs.LookupLemmas.{direct_once, direct_or_not}
 use Rattle.std.proofs.lemmas.Bool.{cases_lt, cases_eq}
 use Rattle.std.proofs.lemmas.Option.{slice_get_within, same_Some}
 use Rattle.rip_check.proofs.PlanLemmas.{find_below, held_back_once, holds_back_or_not}
 use Rattle.rip_plan.specs.declared.parts.Interface.{Interface}
 use Rattle.rip_plan.specs.Network.{Network}
-use Rattle.rip_plan.specs.Relations.{IsInterface, IsLawful, IsLeaf}
+use Rattle.rip_plan.specs.Relations.{IsInterface, IsLeaf}
+use Rattle.rip_plan.specs.PrefixNetworks.{IsNetwork}
 use Rattle.rip_table.specs.State.{State}
-use Rattle.rip_check.specs.Tables.{Tables, FitsShown, Route, FitsWay, MayHoldBack, MayShow, IsSilent, IsLeastOffer}
+use Rattle.rip_check.specs.Tables.{Tables, FitsShown, IsLoneRoute, IsOff, Route, FitsWay, MayHoldBack, MayShow, IsSilent, IsLeastOffer}
 use Rattle.rip_check.specs.declared.way.Way.{Way}
 use Rattle.rip_check.specs.declared.way.Way.TheVariants.{Unreachable, Here, Over}
 use Rattle.rip_check.proofs.ShownLemmas.{some_is, shown_below, metric_most}
@@ -55,7 +56,27 @@ two_or_leaf n r i l c has =
           })
     ]
 
-module _ (n : Network) (plan : IsLawful n) (shown : State) where
+-- a router has two interfaces, or one, or none
+abbrev pub Kind : Network → ℕ → Type 0
+Kind n r = TwoInterfaces n r ⊎ (((i l c : ℕ) × IsLeaf n r i l c) ⊎ IsOff n r)
+
+pub kind_of : (n : Network) (r : ℕ) → Kind n r
+kind_of n r =
+    elim (find_below (IsAnother n r (length n.interfaces)) (another_or_not n r (length n.interfaces)) (length n.interfaces)) [
+      | inl h ↦
+          let x = h.2 in
+          let here : IsInterface n h.0 r x.own.link x.own.cost = record { interface = x.own; listed = x.listed; router = x.its; link = refl; cost = refl } in
+          elim (two_or_leaf n r h.0 x.own.link x.own.cost here) [
+            | inl two ↦ inl two
+            | inr leaf ↦ inr (inl (h.0, x.own.link, x.own.cost, leaf))
+          ]
+      | inr none ↦
+          inr (inr (λ i l c h.
+          let within = slice_get_within n.interfaces i _ h.listed in
+          none i within (record { own = h.interface; other = λ e. omega (arith, e, within); listed = h.listed; its = h.router })))
+    ]
+
+module _ (n : Network) (plan : IsNetwork n) (shown : State) where
   -- two interfaces of a router are on two links
   links_differ : (i j r l k c d : ℕ) → IsInterface n i r l c → IsInterface n j r k d → i ≢ j → l ≢ k
   links_differ i j r l k c d a b not e =
@@ -184,7 +205,7 @@ module _ (n : Network) (plan : IsLawful n) (shown : State) where
   leaf_metric r i l c p t u leaf ft fu (inl on) silent =
       let a = (ft.hidden i l c leaf).held_back on silent in
       let b = (fu.hidden i l c leaf).held_back on silent in
-      direct_once n plan r p t.metric u.metric a.1 b.1
+      direct_once n plan.touched_once plan.one_on_link r p t.metric u.metric a.1 b.1
   leaf_metric r i l c p t u leaf ft fu (inr off) (inl is) =
       let a = unreachable_from l p t.metric r t.way (metric_at shown i p) ft.told.way_fits (ft.told.as_told i l c leaf.has) off is in
       let b = unreachable_from l p u.metric r u.way (metric_at shown i p) fu.told.way_fits (fu.told.as_told i l c leaf.has) off is in
@@ -207,14 +228,24 @@ module _ (n : Network) (plan : IsLawful n) (shown : State) where
         | inr big ↦ leaf_metric r i l c p t u leaf ft fu (holds_back_or_not n r p l) (silent_from l p t.metric r t.way x ft.told.way_fits told big)
       ]
 
+  -- a router without an interface has one route
+  lone_same : (r p : ℕ) (t u : Route) → IsLoneRoute n r p t → IsLoneRoute n r p u → t ≡ u
+  lone_same r p t u a b =
+      elim (direct_or_not n r p) [
+        | inl (c, direct) ↦ same ((a.own c direct).0 ∙ sym (b.own c direct).0) ((a.own c direct).1 ∙ sym (b.own c direct).1)
+        | inr none ↦ same ((a.none none).0 ∙ sym (b.none none).0) ((a.none none).1 ∙ sym (b.none none).1)
+      ]
+    where
+      same : t.way ≡ u.way → t.metric ≡ u.metric → t ≡ u
+      same way metric = λ i. record { metric = metric i; way = way i }
+
   -- no two routes fit what a router shows
   pub one_route : (r p : ℕ) (t u : Route) → r < length n.routers → FitsShown n shown r p t → FitsShown n shown r p u → t ≡ u
   one_route r p t u at ft fu =
-      let has = plan.one_interface r at in
-      let kind : TwoInterfaces n r ⊎ IsLeaf n r has.0 has.1 has.2 = two_or_leaf n r has.0 has.1 has.2 has.3 in
-      elim kind [
+      elim (kind_of n r) [
         | inl two ↦ one_way r p t u (same_metric r p t u two ft fu) ft fu
-        | inr leaf ↦ one_way r p t u (leaf_same r has.0 has.1 has.2 p t u leaf ft fu) ft fu
+        | inr (inl (i, l, c, leaf)) ↦ one_way r p t u (leaf_same r i l c p t u leaf ft fu) ft fu
+        | inr (inr off) ↦ lone_same r p t u (ft.lone off) (fu.lone off)
       ]
 
 -- a value for each number below the bound is a function

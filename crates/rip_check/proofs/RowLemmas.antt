@@ -2,7 +2,8 @@
 use Rattle.std.proofs.Common.{◌≡◌, ℕ, ◌<◌, ◌≤◌, ◌⊎◌, inl, inr, Option, Some, unwrap_or, refl, sym, ◌∙◌, ap, arith}
 use Rattle.std.proofs.lemmas.Bool.{cases_lt}
 use Rattle.rip_plan.specs.Network.{Network}
-use Rattle.rip_plan.specs.Relations.{IsLawful, HasTwoInterfaces}
+use Rattle.rip_plan.specs.Relations.{HasTwoInterfaces}
+use Rattle.rip_plan.specs.PrefixNetworks.{IsNetwork}
 use Rattle.rip_table.specs.State.{State}
 use Rattle.rip_check.specs.declared.way.Way.{Way}
 use Rattle.rip_check.specs.declared.way.Way.TheVariants.{Unreachable, Here, Over}
@@ -18,7 +19,7 @@ pub not_silent : (x : Option ℕ) (m : ℕ) → x ≡ Some m → (m ≡ 16 → �
 not_silent x m e differs (inl none) = cc (e, none)
 not_silent x m e differs (inr big) = differs (let h : Some m ≡ Some 16 = sym e ∙ big in cc h)
 
-module _ (n : Network) (plan : IsLawful n) (shown : State) (r p : ℕ) (two : HasTwoInterfaces n r) where
+module _ (n : Network) (plan : IsNetwork n) (shown : State) (r p : ℕ) (two : HasTwoInterfaces n r) where
   speaks_out : (m : ℕ) (w : Way) → FitsWay n r p m w → m < 16 → IsAsTold n shown r p m w → IsSpoken n shown r p m
   speaks_out m w fits small told =
       speaks_case n plan shown two.0 two.1 r two.2 two.3 two.4 two.5 p m w two.6 two.7 two.8 fits small

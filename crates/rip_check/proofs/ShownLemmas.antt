@@ -1,8 +1,11 @@
 -- What is shown tells of the metric that is behind it.
 use Rattle.std.proofs.Common.{◌≡◌, ℕ, ◌+◌, ◌<◌, ◌≤◌, inl, inr, Option, Some, unwrap_or, refl, arith, length}
 use Rattle.rip_plan.specs.Network.{Network}
-use Rattle.rip_plan.specs.Relations.{IsAttached, IsKept, IsLawful, IsOn}
+use Rattle.rip_plan.specs.PrefixNetworks.{IsNetwork}
+use Rattle.rip_plan.specs.Relations.{IsAttached, IsKept, IsLawful}
+use Rattle.rip_plan.proofs.PrefixNetworkLemmas.{prefix_network}
 use Rattle.rip_table.specs.State.{State}
+use Rattle.rip_check.specs.Networks.{block_at, network_at}
 use Rattle.rip_check.specs.Tables.{Tables, Shows, MayShow, FitsWay, IsSilent, Offers}
 use Rattle.rip_check.specs.declared.way.Way.{Way}
 use Rattle.rip_check.specs.declared.way.Way.TheVariants.{Unreachable, Here, Over}
@@ -37,10 +40,6 @@ metric_least n r p m Unreachable h = omega arith
 metric_least n r p m Here h = omega arith
 metric_least n r p m (Over l) h = omega arith
 
--- who is on a link is known
-pub known_on : (n : Network) → IsLawful n → (r l : ℕ) → IsOn n r l → r < length n.routers
-known_on n plan r l on = plan.router_known on.1.0 r l on.0 on.1.1
-
 -- no route is shown on the link to which the prefix is attached, but one over another link
 told_where : (n : Network) (r l p m : ℕ) (w : Way) (x : Option ℕ) → MayShow n r l p m w x → unwrap_or x 16 < 16 → ((k : ℕ) → w ≡ Over k → ⊥) → IsAttached n r p l → ⊥
 told_where n r l p m Unreachable x h b stays at = omega (arith, silent_is_16 x h, b)
@@ -49,17 +48,24 @@ told_where n r l p m Here x (inr h) b stays at = omega (arith, silent_is_16 x h.
 told_where n r l p m (Over k) x h b stays at = stays k refl
 
 module _ (n : Network) (shown : State) (T : Tables) (plan : IsLawful n) (shows : Shows n shown T) where
+  -- the network of a prefix, and the laws that it keeps
+  abbrev net : ℕ → Network
+  net p = network_at n shown.prefixes p
+
+  its : (p : ℕ) → IsNetwork (net p)
+  its p = prefix_network n plan (block_at shown.prefixes p)
+
   -- an offer below 16 is the cost to the neighbour and the neighbour's metric
-  pub offer_below : (r l s p v : ℕ) (o : Offers n shown r l s p v) → p < length shown.prefixes → v < 16 → v ≡ o.cost + (T s p).metric
-  offer_below r l s p v o known b =
-      let told = (shows.fits s p (known_on n plan s l o.neighbour.there) known).told.as_told o.interface l o.its_cost o.there in
+  pub offer_below : (r l s p v : ℕ) (o : Offers (net p) shown r l s p v) → r < length n.routers → p < length shown.prefixes → v < 16 → v ≡ o.cost + (T s p).metric
+  offer_below r l s p v o at known b =
+      let told = (shows.fits s p ((its p).neighbour_known r l s at o.neighbour) known).fits.told.as_told o.interface l o.its_cost o.there in
       let small : unwrap_or (metric_at shown o.interface p) 16 < 16 = omega (arith, o.value) in
-      let e = shown_below n s l p (T s p).metric (T s p).way (metric_at shown o.interface p) told small in
+      let e = shown_below (net p) s l p (T s p).metric (T s p).way (metric_at shown o.interface p) told small in
       omega (arith, o.value, e)
 
   -- and the neighbour does not have the prefix attached there, if it goes over no link then
-  pub offer_tells : (r l s p v : ℕ) (o : Offers n shown r l s p v) → p < length shown.prefixes → v < 16 → ((k : ℕ) → (T s p).way ≡ Over k → IsKept n s p → ⊥) → IsAttached n s p l → ⊥
-  offer_tells r l s p v o known b stays at =
-      let told = (shows.fits s p (known_on n plan s l o.neighbour.there) known).told.as_told o.interface l o.its_cost o.there in
+  pub offer_tells : (r l s p v : ℕ) (o : Offers (net p) shown r l s p v) → r < length n.routers → p < length shown.prefixes → v < 16 → ((k : ℕ) → (T s p).way ≡ Over k → IsKept (net p) s p → ⊥) → IsAttached (net p) s p l → ⊥
+  offer_tells r l s p v o beside known b stays at =
+      let told = (shows.fits s p ((its p).neighbour_known r l s beside o.neighbour) known).fits.told.as_told o.interface l o.its_cost o.there in
       let small : unwrap_or (metric_at shown o.interface p) 16 < 16 = omega (arith, o.value) in
-      told_where n s l p (T s p).metric (T s p).way (metric_at shown o.interface p) told small (λ k is. stays k is (attached_kept n s p l at)) at
+      told_where (net p) s l p (T s p).metric (T s p).way (metric_at shown o.interface p) told small (λ k is. stays k is (attached_kept (net p) s p l at)) at

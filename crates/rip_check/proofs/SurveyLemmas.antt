@@ -3,7 +3,8 @@ use Rattle.std.proofs.Common.{◌≡◌, ℕ, ◌+◌, ◌<◌, ◌≤◌, ◌�
 use Rattle.std.proofs.lemmas.Bool.{cases_lt}
 use Rattle.std.proofs.lemmas.Option.{same_Some}
 use Rattle.rip_plan.specs.Network.{Network}
-use Rattle.rip_plan.specs.Relations.{IsAttached, IsInterface, IsLawful}
+use Rattle.rip_plan.specs.Relations.{IsAttached, IsInterface}
+use Rattle.rip_plan.specs.PrefixNetworks.{IsNetwork}
 use Rattle.rip_table.specs.State.{State}
 use Rattle.rip_check.specs.declared.way.Way.TheVariants.{Over}
 use Rattle.rip_check.specs.Tables.{IsSilent, MayHoldBack, MayShow, IsAsTold}
@@ -171,7 +172,7 @@ module _ (n : Network) (shown : State) (r p i l c : ℕ) (its : IsInterface n i 
             cc (none, h.1)
 
     -- a silence beside the silent
-    pub more_silence : IsLawful n → (silent : Option ℕ) (blocked : Bool) → IsSilence n shown r p i silent blocked → ((silent ≡ None → ⊥) ⊎ MayHoldBack n r p l) →
+    pub more_silence : IsNetwork n → (silent : Option ℕ) (blocked : Bool) → IsSilence n shown r p i silent blocked → ((silent ≡ None → ⊥) ⊎ MayHoldBack n r p l) →
         IsSilence n shown r p (i + 1) silent true
     more_silence plan silent blocked was beside =
         record {

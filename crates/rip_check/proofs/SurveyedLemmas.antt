@@ -3,7 +3,8 @@ use Rattle.std.proofs.Common.{◌≡◌, ◌≢◌, ℕ, ◌<◌, ◌⊎◌, inl
 use Rattle.std.proofs.lemmas.Bool.{cases_lt}
 use Rattle.std.proofs.lemmas.Option.{same_Some}
 use Rattle.rip_plan.specs.Network.{Network}
-use Rattle.rip_plan.specs.Relations.{IsAttached, IsLawful, IsInterface, HasTwoInterfaces}
+use Rattle.rip_plan.specs.Relations.{IsAttached, IsInterface, HasTwoInterfaces}
+use Rattle.rip_plan.specs.PrefixNetworks.{IsNetwork}
 use Rattle.rip_table.specs.State.{State}
 use Rattle.rip_check.specs.declared.surveys.Survey.{Survey}
 use Rattle.rip_check.specs.declared.way.Way.TheVariants.{Unreachable, Here, Over}
@@ -26,7 +27,7 @@ module _ (n : Network) (shown : State) (r p : ℕ) (found : Survey) (is : IsSurv
   one_metric off h = h.3 (is.speech.one off h.0 h.1 (within n h.0 r h.2.link h.2.cost h.2.its) h.2)
 
   -- a prefix that is told where it is attached, and silent nowhere else, is told everywhere
-  pub told_everywhere : IsLawful n → IsInRange n shown → ShowsEach n shown r p → found.not_here ≡ true → found.silent ≡ None → (l : ℕ) → IsAttached n r p l → ShowsWhereAttached n shown r p l
+  pub told_everywhere : IsNetwork n → IsInRange n shown → ShowsEach n shown r p → found.not_here ≡ true → found.silent ≡ None → (l : ℕ) → IsAttached n r p l → ShowsWhereAttached n shown r p l
   told_everywhere plan range each on none l at = (at, λ i k c its. go i k c its (metric_at shown i p) refl)
     where
       told : (i : ℕ) × IsShownThere n shown r p i
@@ -55,7 +56,7 @@ module _ (n : Network) (shown : State) (r p : ℕ) (found : Survey) (is : IsSurv
           ]
 
   -- and where it is told everywhere, it is told where it is attached, and silent nowhere
-  pub tells_there : IsLawful n → (l : ℕ) → ShowsWhereAttached n shown r p l → found.not_here ≡ false → ⊥
+  pub tells_there : IsNetwork n → (l : ℕ) → ShowsWhereAttached n shown r p l → found.not_here ≡ false → ⊥
   tells_there plan l on off =
       let here = plan.attached_there r p l on.0 in
       let shows = on.1 here.1.0 l here.0 here.1.1 in
@@ -72,7 +73,7 @@ module _ (n : Network) (shown : State) (r p : ℕ) (found : Survey) (is : IsSurv
           let shows = on.1 h.0 k h.1 h.3 in
           absurd (below_not_silent (metric_at shown h.0 p) shows.0 shows.1 shows.2 h.4)
 
-  module _ (plan : IsLawful n) (range : IsInRange n shown) (two : HasTwoInterfaces n r) where
+  module _ (plan : IsNetwork n) (range : IsInRange n shown) (two : HasTwoInterfaces n r) where
     -- two metrics fit no route
     pub two_metrics : found.another ≡ true → (t : Route) → Tells n shown r p t → ⊥
     two_metrics on t tells =

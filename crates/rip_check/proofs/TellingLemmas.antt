@@ -4,7 +4,8 @@ use Rattle.std.proofs.lemmas.Bool.{cases_lt, cases_eq}
 use Rattle.std.proofs.lemmas.List.{get_or-set_other}
 use Rattle.std.proofs.lemmas.Grind.{get_or-set_at}
 use Rattle.rip_plan.specs.Network.{Network}
-use Rattle.rip_plan.specs.Relations.{HasCost, IsDirect, IsLawful}
+use Rattle.rip_plan.specs.Relations.{HasCost, IsDirect, IsNeighbour}
+use Rattle.rip_plan.specs.PrefixNetworks.{IsNetwork}
 use Rattle.rip_check.specs.Paths.{Hop, IsPath, IsLeast, MayHop}
 use Rattle.rip_check.specs.Tellings.{AreTold, HasTold, IsTelling, IsTold}
 use Rattle.rip_check.proofs.PlanLemmas.{direct_least}
@@ -27,7 +28,7 @@ module _ (n : Network) (p : ℕ) where
   reached_over r l s c v w has near e small (inl big) = absurd (omega (arith, e, small, big))
   reached_over r l s c v w has near e small (inr h) = inr (small, (record { link = l; to = s } ∷ h.1.0, (c, w, has, near, h.1.1, e)))
 
-  module _ (plan : IsLawful n) where
+  module _ (plan : IsNetwork n) where
     -- a path costs at least 1 a hop and 1 at its end
     pub hops_cost : (r : ℕ) (hops : List Hop) (w : ℕ) → IsPath n p r hops w → length hops + 1 ≤ w
     hops_cost r [] w path = direct_least n plan r p w path
@@ -36,11 +37,11 @@ module _ (n : Network) (p : ℕ) where
         let ih = hops_cost h.to hops path.1 path.4 in
         omega (arith, cost, ih, path.5)
 
--- ---- tellings, in a network whose interfaces cost something and are of its routers
+-- ---- tellings, in a network whose interfaces cost something and whose routers have no other neighbours
 
 pub record IsSound (n : Network) : Type 0 where
   pub costs : (r l c : ℕ) → HasCost n r l c → 1 ≤ c
-  pub known : (r l c : ℕ) → HasCost n r l c → r < length n.routers
+  pub known : (r l s : ℕ) → r < length n.routers → IsNeighbour n r l s → s < length n.routers
 
 -- routers whose metrics are below m have told them
 abbrev pub AreSettled : Network → ℕ → ℕ → List ℕ → Type 0
@@ -101,8 +102,7 @@ module _ (n : Network) (p : ℕ) (sound : IsSound n) where
         go (inl e) = rw e (was r lt)
         go (inr h) =
             let most = reached_most n p r (get_or before r 0) (was r lt) in
-            let there = h.4.neighbour.there in
-            let s_at = sound.known h.1 h.0 there.0 there.1 in
+            let s_at = sound.known r h.0 h.1 lt h.4.neighbour in
             let is : get_or after r 0 ≡ h.2 + get_or before h.1 0 = omega (arith, h.5, h.6) in
             elim (cases_lt (get_or after r 0) 16) [
               | inl less ↦ reached_over n p r h.0 h.1 h.2 (get_or after r 0) (get_or before h.1 0) h.3 h.4 is less (was h.1 s_at)
@@ -137,18 +137,16 @@ module _ (n : Network) (p : ℕ) (sound : IsSound n) where
       ]
 
   module _ (metrics : List ℕ) (settled : AreSettled n p 16 metrics) (reached : AreReached n p metrics) (direct : (r c : ℕ) → IsDirect n r p c → get_or metrics r 0 ≤ c) where
-    no_path_less : (r : ℕ) (hops : List Hop) (w : ℕ) → IsPath n p r hops w → get_or metrics r 0 ≤ w
-    no_path_less r [] w path = direct r w path
-    no_path_less r (h ∷ hops) w path =
-        let rest = no_path_less h.to hops path.1 path.4 in
-        let there = path.3.neighbour.there in
-        let to_at = sound.known h.to h.link there.0 there.1 in
-        let r_at = sound.known r h.link path.0 path.2 in
-        let most = reached_most n p r (get_or metrics r 0) (reached r r_at) in
+    no_path_less : (r : ℕ) (hops : List Hop) (w : ℕ) → r < length n.routers → IsPath n p r hops w → get_or metrics r 0 ≤ w
+    no_path_less r [] w lt path = direct r w path
+    no_path_less r (h ∷ hops) w lt path =
+        let to_at = sound.known r h.link h.to lt path.3.neighbour in
+        let rest = no_path_less h.to hops path.1 to_at path.4 in
+        let most = reached_most n p r (get_or metrics r 0) (reached r lt) in
         elim (cases_lt (get_or metrics h.to 0) 16) [
           | inl small ↦ omega (arith, rest, settled h.to to_at small r h.link path.0 path.2 path.3, path.5)
           | inr big ↦ omega (arith, rest, big, most, path.5)
         ]
 
     pub settled_least : (r : ℕ) → r < length n.routers → IsLeast n p r (get_or metrics r 0)
-    settled_least r lt = record { reached = reached r lt; least = no_path_less r }
+    settled_least r lt = record { reached = reached r lt; least = λ hops w path. no_path_less r hops w lt path }

@@ -1,5 +1,5 @@
 -- Loops in which routers tell their metrics after a failure.
-use Rattle.std.proofs.Common.{◌≡◌, ℕ, ◌+◌, ◌<◌, ◌≤◌, ◌↔◌, inl, inr, Bool, true, false, List, Option, Some, get_or, length, slice_get, slice_set, refl, ◌∙◌, ap, arith}
+use Rattle.std.proofs.Common.{◌≡◌, ℕ, ◌+◌, ◌<◌, ◌≤◌, ◌↔◌, inl, inr, Bool, true, false, List, Option, Some, get_or, length, slice_get, slice_set, refl, ◌∙◌, ap, subst, arith}
 use Rattle.std.specs.List.{Contains}
 use Rattle.std.proofs.lemmas.Bool.{cases_lt, cases_eq}
 use Rattle.std.proofs.lemmas.Option.{slice_get-get_or, slice_get_within, get_or_from_slice_get}
@@ -7,13 +7,28 @@ use Rattle.std.proofs.lemmas.List.{get_or-set_other}
 use Rattle.std.proofs.lemmas.Grind.{get_or-set_at, common_steps}
 use Rattle.rip_plan.specs.declared.parts.Interface.{Interface}
 use Rattle.rip_plan.specs.Network.{Network}
-use Rattle.rip_plan.specs.Relations.{IsAttached, IsInterface, IsKept}
+use Rattle.rip_plan.specs.PrefixNetworks.{exchanges}
+use Rattle.rip_plan.specs.Relations.{IsAttached, IsInterface, IsKept, IsLawful}
 use Rattle.rip_check.specs.declared.failures.Failure.{Failure}
-use Rattle.rip_check.specs.Failures.{is_link_up, is_router_up, network_left}
+use Rattle.rip_check.specs.Failures.{is_link_up, is_router_up, left_to, network_left}
+use Rattle.rip_check.specs.Networks.{block_at}
 use Rattle.rip_check.specs.Tellings.{HasTold, IsTold}
 use Rattle.rip_check.proofs.AcrossLemmas.{across_place}
-use Rattle.rip_check.proofs.LeftLemmas.{still_attached, was_cost}
+use Rattle.rip_check.proofs.LeftLemmas.{attached_left, cost_own, kept_left, there_was}
 use Rattle.rip_check.proofs.OwnedLemmas.{at_place, its_link}
+
+-- ---- metrics
+
+-- one more is written
+pub one_written : (xs : List ℕ) (i v : ℕ) (Q : ℕ → ℕ → Type 0) → i < length xs → ((r : ℕ) → r < i → Q r (get_or xs r 0)) → Q i v →
+    (r : ℕ) → r < i + 1 → Q r (get_or (slice_set xs i v) r 0)
+one_written xs i v Q at before here r less =
+    elim (cases_lt r i) [
+      | inl sooner ↦ rw (get_or-set_other xs i r v 0 (λ e. omega (arith, sooner, e))) (before r sooner)
+      | inr late ↦
+          let same : r ≡ i = omega arith in
+          rw same (rw (get_or-set_at xs i i v 0 refl at) here)
+    ]
 
 -- ---- marks
 
@@ -34,7 +49,7 @@ keep_mark marks k l lt is =
 
 -- ---- one interface of a link
 
-module _ (n : Network) (f : Option Failure) (p l m : ℕ) (numbers : List ℕ) (exact : (i : ℕ) → Contains numbers i ↔ ((r c : ℕ) × IsInterface n i r l c)) where
+module _ (n : Network) (plan : IsLawful n) (f : Option Failure) (p l m : ℕ) (numbers : List ℕ) (exact : (i : ℕ) → Contains numbers i ↔ ((r c : ℕ) × IsInterface n i r l c)) where
   -- the metric was told to the interfaces at the places before k
   abbrev pub IsToldBefore : List ℕ → ℕ → Type 0
   IsToldBefore metrics k =
@@ -54,36 +69,37 @@ module _ (n : Network) (f : Option Failure) (p l m : ℕ) (numbers : List ℕ) (
             omega (arith, le, same.2)
       ]
 
-  pub all_told : (metrics : List ℕ) (k : ℕ) → length numbers ≤ k → IsToldBefore metrics k → IsTold (network_left n f) p m metrics l
-  all_told metrics k end told r c has takes =
-      let was = was_cost n f r l c has in
+  pub all_told : exchanges n (block_at n.prefixes p) l ≡ true → (metrics : List ℕ) (k : ℕ) → length numbers ≤ k → IsToldBefore metrics k → IsTold (left_to n f p) p m metrics l
+  all_told free metrics k end told r c has takes =
+      let was = cost_own n plan f p r l c (there_was n plan f p r l c free has) has in
       let place = across_place n l numbers exact was.0.0 r c was.0.1 in
-      told place.0 r c (omega (arith, place.1, end)) (rw place.2 was.0.1) was.1 takes
+      told place.0 r c (omega (arith, place.1, end)) (rw place.2 was.0.1) was.2 (λ kept. takes ((kept_left n plan f p r).1 kept))
 
 -- ---- one interface of a router
 
-module _ (n : Network) (f : Option Failure) (p r : ℕ) (numbers : List ℕ) (exact : (i : ℕ) → Contains numbers i ↔ ((l c : ℕ) × IsInterface n i r l c)) where
-  -- the links of the interfaces at the places before k on which the router tells are marked
+module _ (n : Network) (plan : IsLawful n) (f : Option Failure) (p r : ℕ) (numbers : List ℕ) (exact : (i : ℕ) → Contains numbers i ↔ ((l c : ℕ) × IsInterface n i r l c)) where
+  -- a link on which the router tells is marked
+  abbrev pub IsMarkedThere : List Bool → ℕ → Type 0
+  IsMarkedThere marks l =
+      is_router_up f r ≡ true → is_link_up f l ≡ true → exchanges n (block_at n.prefixes p) l ≡ true → (IsAttached n r p l → ⊥) → slice_get marks l ≡ Some true
+
+  -- so those of the interfaces at the places before k
   abbrev pub IsMarkedBefore : List Bool → ℕ → Type 0
-  IsMarkedBefore marks k =
-      (j l c : ℕ) → j < k → IsInterface n (get_or numbers j 0) r l c → is_router_up f r ≡ true → is_link_up f l ≡ true → (IsAttached n r p l → ⊥) → slice_get marks l ≡ Some true
+  IsMarkedBefore marks k = (j l c : ℕ) → j < k → IsInterface n (get_or numbers j 0) r l c → IsMarkedThere marks l
 
   pub one_marked : (marks next : List Bool) (k : ℕ) (x : Interface) → IsInterface n (get_or numbers k 0) x.router x.link x.cost →
-      ((l : ℕ) → slice_get marks l ≡ Some true → slice_get next l ≡ Some true) →
-      (is_router_up f r ≡ true → is_link_up f x.link ≡ true → (IsAttached n r p x.link → ⊥) → slice_get next x.link ≡ Some true) → IsMarkedBefore marks k → IsMarkedBefore next (k + 1)
-  one_marked marks next k x its kept here before j l c lt at r_up l_up off =
+      ((l : ℕ) → slice_get marks l ≡ Some true → slice_get next l ≡ Some true) → IsMarkedThere next x.link → IsMarkedBefore marks k → IsMarkedBefore next (k + 1)
+  one_marked marks next k x its kept here before j l c lt at =
       elim (cases_lt j k) [
-        | inl sooner ↦ kept l (before j l c sooner at r_up l_up off)
+        | inl sooner ↦ λ r_up l_up free off. kept l (before j l c sooner at r_up l_up free off)
         | inr late ↦
             let e : j ≡ k = omega arith in
             let same = its_link n (get_or numbers k 0) x.router x.link x.cost r l c its (rw e at at) in
-            let l_up' : is_link_up f x.link ≡ true = rw same.1 l_up in
-            let off' : IsAttached n r p x.link → ⊥ = rw same.1 off in
-            rw same.1 at (here r_up l_up' off')
+            subst (IsMarkedThere next) same.1 here
       ]
 
-  pub all_marked : (marks : List Bool) (k : ℕ) → length numbers ≤ k → IsMarkedBefore marks k → HasTold (network_left n f) p marks r
-  all_marked marks k end marked l c has off =
-      let was = was_cost n f r l c has in
+  pub all_marked : r < length n.routers → (marks : List Bool) (k : ℕ) → length numbers ≤ k → IsMarkedBefore marks k → HasTold (left_to n f p) p marks r
+  all_marked lt marks k end marked l c has off =
+      let was = cost_own n plan f p r l c lt has in
       let place = at_place n r numbers exact was.0.0 l c was.0.1 in
-      marked place.0 l c (omega (arith, place.1, end)) (rw place.2 was.0.1) was.1 was.2 (λ at. off (still_attached n f r p l at was.1 was.2))
+      marked place.0 l c (omega (arith, place.1, end)) (rw place.2 was.0.1) was.2 was.3 was.1 (λ at. off (attached_left n plan f p r l at was.1 was.2 was.3))

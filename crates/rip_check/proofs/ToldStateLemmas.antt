@@ -1,15 +1,19 @@
 -- The table of what routers tell, by its cells.
 use Rattle.std.proofs.Common.{◌≡◌, ◌≢◌, ℕ, zero, suc, ◌<◌, ◌≤◌, ◌⊎◌, inl, inr, true, false, List, [], ◌∷◌, ◌++◌, Option, None, Some, option_and_then, slice_get, get_or, length, refl, sym, ap, ◌∙◌, arith}
+use Rattle.std.proofs.lemmas.Bool.{both_ways, cases_Bool}
 use Rattle.std.proofs.lemmas.Option.{slice_get-get_or, slice_get_within}
 use Rattle.rip_wire.specs.Prefix.{Block}
 use Rattle.rip_plan.specs.Network.{Network, number_of_prefix}
-use Rattle.rip_plan.specs.Relations.{IsInterface, IsLawful}
+use Rattle.rip_plan.specs.PrefixNetworks.{exchanges}
+use Rattle.rip_plan.specs.Relations.{Exchanges, IsInterface, IsLawful}
+use Rattle.rip_plan.proofs.PrefixNetworkLemmas.{exchange, its_own, stays_interface}
 use Rattle.rip_plan.specs.declared.parts.Interface.{Interface}
 use Rattle.rip_table.specs.State.{AreDistinct, Fits, IsShown, IsState}
 use Rattle.rip_table.proofs.NumberLemmas.{number-at, number-none, number-some}
 use Rattle.rip_table.proofs.PrefixListLemmas.{is_among-item}
 use Rattle.rip_routes.specs.OwnTables.{AreOwnTables, FitsOwn, OwnTables}
 use Rattle.rip_check.specs.Metrics.{metric_at}
+use Rattle.rip_check.specs.Networks.{block_at, network_at}
 use Rattle.rip_check.specs.OwnTells.{IsToldBy, TellsThere}
 use Rattle.std.specs.declared.vec.Vec.{Vec}
 use Rattle.std.specs.declared.alloc.Global.{Global}
@@ -39,14 +43,20 @@ module _ (n : Network) (t : OwnTables) (plan : IsLawful n) (are : AreOwnTables t
   row_at : (k : ℕ) → k < length t.prefixes → slice_get rows k ≡ Some (get_or rows k [])
   row_at k lt = slice_get-get_or rows k [] (omega (arith, lt, size))
 
-  cell_is : (k i s l c : ℕ) → k < length t.prefixes → IsInterface n i s l c → (cell_at rows k i ≡ shown_by (get_or (get_or rows k []) i 0)) × IsCell n t s l k (get_or (get_or rows k []) i 0)
-  cell_is k i s l c lt its =
+  at_cell : (k i s l c : ℕ) → k < length t.prefixes → IsInterface n i s l c → cell_at rows k i ≡ shown_by (get_or (get_or rows k []) i 0)
+  at_cell k i s l c lt its =
       let row = get_or rows k [] in
-      let is = told k row (row_at k lt) in
-      let at : slice_get row i ≡ Some (get_or row i 0) = slice_get-get_or row i 0 (omega (arith, slice_get_within n.interfaces i _ its.listed, is.size)) in
-      (rw (row_at k lt) (rw at refl), is.cells i s l c (plan.router_known i s l c its) its)
+      let at : slice_get row i ≡ Some (get_or row i 0) = slice_get-get_or row i 0 (omega (arith, slice_get_within n.interfaces i _ its.listed, (told k row (row_at k lt)).size)) in
+      rw (row_at k lt) (rw at refl)
 
-  tells_cell : (k s l v : ℕ) → IsCell n t s l k v → TellsThere n t s l k (shown_by v)
+  cell_is : (k i s l c : ℕ) → k < length t.prefixes → s < length n.routers → IsInterface (network_at n t.prefixes k) i s l c →
+      IsCell (network_at n t.prefixes k) t s l k (get_or (get_or rows k []) i 0)
+  cell_is k i s l c lt known its = (told k (get_or rows k []) (row_at k lt)).cells i s l c known its
+
+  closed_cell : (k i s l c : ℕ) → k < length t.prefixes → IsInterface n i s l c → (Exchanges n l (block_at t.prefixes k) → ⊥) → get_or (get_or rows k []) i 0 ≡ 0
+  closed_cell k i s l c lt its shut = (told k (get_or rows k []) (row_at k lt)).closed i s l c (plan.router_known i s l c its) its shut
+
+  tells_cell : (k s l v : ℕ) → IsCell (network_at n t.prefixes k) t s l k v → TellsThere (network_at n t.prefixes k) t s l k (shown_by v)
   tells_cell k s l v (inl mute) = rw mute.0 mute.1
   tells_cell k s l v (inr loud) =
       let least : 1 ≤ v = omega (arith, loud.0, (route_is t are s k).least) in
@@ -66,21 +76,36 @@ module _ (n : Network) (t : OwnTables) (plan : IsLawful n) (are : AreOwnTables t
     interfaces = refl;
     prefixes = refl;
     unheard = λ i. refl;
-    tells = λ i s l c k its lt.
-        let cell = cell_is k i s l c lt its in
-        rw (metric_is k i lt ∙ cell.0) (tells_cell k s l (get_or (get_or rows k []) i 0) cell.1);
+    tells = λ i s l c k known lt its.
+        let was = (its_own n (exchanges n (block_at t.prefixes k)) i s l c known its).0 in
+        rw (metric_is k i lt ∙ at_cell k i s l c lt was) (tells_cell k s l (get_or (get_or rows k []) i 0) (cell_is k i s l c lt known its));
+    nothing = λ i s l c k lt its shut.
+        metric_is k i lt ∙ at_cell k i s l c lt its ∙ ap shown_by (closed_cell k i s l c lt its shut);
   }
 
   pub told_fits : Fits n (told_state (length n.interfaces) t.prefixes rows)
   told_fits = record { interfaces = refl; others = fits.others; prefixes = fits.prefixes; unplanned = fits.unplanned }
 
-  metric_of_cell : (k s l v m : ℕ) → IsCell n t s l k v → shown_by v ≡ Some m → (1 ≤ m) × (m ≤ 16)
+  metric_of_cell : (k s l v m : ℕ) → IsCell (network_at n t.prefixes k) t s l k v → shown_by v ≡ Some m → (1 ≤ m) × (m ≤ 16)
   metric_of_cell k s l v m (inl mute) e =
       let is = cell_shown v m e in
       absurd (omega (arith, is.1, mute.0))
   metric_of_cell k s l v m (inr loud) e =
       let is = cell_shown v m e in
       (omega (arith, is.0, is.1), omega (arith, is.0, loud.0, (route_is t are s k).most))
+
+  -- a closed cell shows nothing
+  shown_range : (k i s l c m : ℕ) → k < length t.prefixes → IsInterface n i s l c → shown_by (get_or (get_or rows k []) i 0) ≡ Some m → (1 ≤ m) × (m ≤ 16)
+  shown_range k i s l c m lt its shown =
+      let b = block_at t.prefixes k in
+      elim (cases_Bool (exchanges n b l)) [
+        | inl opened ↦
+            metric_of_cell k s l (get_or (get_or rows k []) i 0) m (cell_is k i s l c lt (plan.router_known i s l c its) (stays_interface n (exchanges n b) i s l c its opened)) shown
+        | inr shut ↦
+            let zero : get_or (get_or rows k []) i 0 ≡ 0 = closed_cell k i s l c lt its (λ is. both_ways (exchanges n b l) shut ((exchange n plan b l).1 is)) in
+            let none : shown_by 0 ≡ Some m = rw zero at shown in
+            absurd cc
+      ]
 
   pub told_state_is : IsState (told_state (length n.interfaces) t.prefixes rows)
   told_state_is = record {
@@ -97,8 +122,7 @@ module _ (n : Network) (t : OwnTables) (plan : IsLawful n) (are : AreOwnTables t
           let x = get_or n.interfaces i blank in
           let its : IsInterface n i x.router x.link x.cost = record { interface = x; listed = slice_get-get_or n.interfaces i blank lt; router = refl; link = refl; cost = refl } in
           let at = slice_get_within t.prefixes k p (number-at p t.prefixes k number) in
-          let cell = cell_is k i x.router x.link x.cost at its in
-          let range = metric_of_cell k x.router x.link (get_or (get_or rows k []) i 0) m cell.1 (sym cell.0 ∙ e) in
+          let range = shown_range k i x.router x.link x.cost m at its (sym (at_cell k i x.router x.link x.cost at its) ∙ e) in
           record { least = range.0; most = range.1; listed = number-some p t.prefixes k number }
 
 -- an item of a list with one item more

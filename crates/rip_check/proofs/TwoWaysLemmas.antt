@@ -5,14 +5,15 @@ use Rattle.std.proofs.lemmas.Bool.{cases_eq}
 use Rattle.std.proofs.lemmas.Option.{slice_get_within, same_Some}
 use Rattle.rip_plan.specs.declared.parts.Interface.{Interface}
 use Rattle.rip_plan.specs.Network.{Network}
-use Rattle.rip_plan.specs.Relations.{HasTwoInterfaces, IsAttached, IsInterface, IsLawful, IsLeaf}
+use Rattle.rip_plan.specs.Relations.{HasTwoInterfaces, IsAttached, IsInterface, IsLeaf}
+use Rattle.rip_plan.specs.PrefixNetworks.{IsNetwork}
 use Rattle.rip_table.specs.State.{State}
 use Rattle.rip_check.specs.Firsts.{IsReadable, IsShownBelow, Shows16Twice, ShowsEach, ShowsTwo, ShowsTwoWays, ShowsWhereAttached}
 use Rattle.rip_check.specs.Metrics.{IsInRange, metric_at}
 use Rattle.rip_check.specs.Tables.{MayHoldBack, Route, Tells}
 use Rattle.rip_check.specs.declared.way.Way.TheVariants.{Here, Over, Unreachable}
 use Rattle.rip_check.proofs.ReadableLemmas.{fits_readable, two_fits}
-use Rattle.rip_check.proofs.RouteLemmas.{two_or_leaf}
+use Rattle.rip_check.proofs.RouteLemmas.{kind_of}
 use Rattle.rip_check.proofs.PlanLemmas.{find_below, held_back_once, holds_back_or_not}
 
 -- interface i is router r's, and this holds
@@ -71,7 +72,7 @@ another_or_not n shown r p i j = go (cases_eq j i) (poisoned_or_not n shown r p 
 on_its_link : (n : Network) (shown : State) (r p i : ℕ) (h : IsPoisoned n shown r p i) → IsInterface n i r h.own.link h.own.cost
 on_its_link n shown r p i h = record { interface = h.own; listed = h.listed; router = h.its; link = refl; cost = refl }
 
-module _ (n : Network) (plan : IsLawful n) (shown : State) (range : IsInRange n shown) (r p : ℕ)
+module _ (n : Network) (plan : IsNetwork n) (shown : State) (range : IsInRange n shown) (r p : ℕ)
     (no_two : ShowsTwo n shown r p → ⊥) (each : ShowsEach n shown r p) where
   said : (i l c : ℕ) → IsInterface n i r l c → (m : ℕ) × (metric_at shown i p ≡ Some m) × (1 ≤ m) × (m ≤ 16)
   said i l c has = go (metric_at shown i p) refl
@@ -265,22 +266,21 @@ module _ (n : Network) (plan : IsLawful n) (shown : State) (range : IsInRange n 
         | inl h ↦ (
           record { metric = 16; way = Unreachable },
           record { way_fits = refl; as_told = λ j k d there. inr (let e : j ≡ i = leaf.only j k d there in rw e h.shows) },
-          inr (i, l, c, leaf),
+          inr (inl (i, l, c, leaf)),
         )
         | inr not ↦
             let b = below i l c leaf.has not in (
               record { metric = b.0; way = Here },
               here_tells i l c b.0 leaf.has b.1 b.2 b.3 (λ j k d there h. absurd (not (let e : j ≡ i = leaf.only j k d there in rw e at h)))
                   (λ j k d there other attached. apart k (attached, λ x y z its. let s = below x y z its (λ h. not (let e : x ≡ i = leaf.only x y z its in rw e at h)) in (s.0, s.1, s.3))),
-              inr (i, l, c, leaf),
+              inr (inl (i, l, c, leaf)),
             )
       ]
 
   pub two_ways_shown : r < length n.routers → ((l : ℕ) → ShowsWhereAttached n shown r p l → ⊥) → (IsReadable n shown r p → ⊥) → ShowsTwoWays n shown r p
   two_ways_shown at apart unread =
-      let has = plan.one_interface r at in
-      let kind : HasTwoInterfaces n r ⊎ IsLeaf n r has.0 has.1 has.2 = two_or_leaf n r has.0 has.1 has.2 has.3 in
-      elim kind [
+      elim (kind_of n r) [
         | inl two ↦ (two_shown at two unread apart, below_shown at two unread apart)
-        | inr leaf ↦ absurd (unread (leaf_read has.0 has.1 has.2 leaf apart))
+        | inr (inl (i, l, c, leaf)) ↦ absurd (unread (leaf_read i l c leaf apart))
+        | inr (inr off) ↦ absurd (unread (record { metric = 16; way = Unreachable }, record { way_fits = refl; as_told = λ i l d h. absurd (off i l d h) }, inr (inr off)))
       ]

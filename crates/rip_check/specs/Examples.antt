@@ -75,7 +75,7 @@ pub record IsSettledNetwork (n : Network) (shown : State) (T : Tables) : Type 0 
   pub lawful : IsLawful n
   pub shows : Shows n shown T
   pub holds : HoldsAll n shown T
-  pub right : AllRight n (length shown.prefixes) T
+  pub right : AllRight n shown.prefixes T
 
 -- the plan keeps its laws and the log shows the tables, but some place does not hold, and the
 -- tables are not right
@@ -85,7 +85,7 @@ pub record IsUnsettledNetwork
   pub lawful : IsLawful n
   pub shows : Shows n shown T
   pub fails : HoldsAll n shown T → ⊥
-  pub wrong : AllRight n (length shown.prefixes) T → ⊥
+  pub wrong : AllRight n shown.prefixes T → ⊥
 
 -- ---- The triangle: three routers, and a link with a prefix between any two
 

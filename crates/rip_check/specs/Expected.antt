@@ -2,6 +2,7 @@
 use Rattle.std.specs.Prelude.{◌≡◌, ℕ, zero, suc, ◌+◌, ◌*◌, ◌<◌, ◌⊎◌, length, slice_index}
 use Rattle.rip_plan.specs.Network.{Network}
 use Rattle.rip_check.specs.declared.expected.Expected.{Expected}
+use Rattle.rip_check.specs.Networks.{network_at}
 use Rattle.rip_check.specs.Paths.{IsLeast}
 use Rattle.rip_check.specs.Tables.{Route, FitsWay}
 use Rattle.rip_check.specs.Settled.{IsRight}
@@ -16,7 +17,8 @@ pub record IsExpected (n : Network) (r p : ℕ) (route : Route) : Type 0 where
 pub record AreExpected (n : Network) (expected : Expected) : Type 0 where
   pub size : length expected.metrics.items ≡ length n.routers * length n.prefixes
   pub least : (r p : ℕ) → r < length n.routers → p < length n.prefixes
-      → IsLeast n p r (slice_index expected.metrics.items (r * length n.prefixes + p))
+      → IsLeast (network_at n n.prefixes p) p r
+      (slice_index expected.metrics.items (r * length n.prefixes + p))
 
 -- so many of the numbers below a bound are of this kind
 abbrev pub IsCount : (ℕ → Type 0) → ℕ → ℕ → Type 0
@@ -34,4 +36,5 @@ IsTotal IsPart (suc k) total =
 -- so many pairs of a router and a prefix of the plan have 16 for their least metric
 abbrev pub AreUnreachable : Network → ℕ → Type 0
 AreUnreachable n total =
-    IsTotal (λ r. IsCount (λ p. IsLeast n p r 16) (length n.prefixes)) (length n.routers) total
+    IsTotal (λ r. IsCount (λ p. IsLeast (network_at n n.prefixes p) p r 16) (length n.prefixes))
+    (length n.routers) total

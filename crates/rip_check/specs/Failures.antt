@@ -2,11 +2,13 @@
 use Rattle.std.specs.Prelude.{ℕ, ◌<◌, Bool, true, not, ◌&&◌, ◌==◌, Option, None, Some, length}
 use Rattle.std.specs.List.{filter}
 use Rattle.rip_plan.specs.Network.{Network}
+use Rattle.rip_plan.specs.PrefixNetworks.{exchanges, network_where}
 use Rattle.rip_plan.specs.declared.parts.Interface.{Interface}
 use Rattle.rip_plan.specs.declared.parts.Seat.{Seat}
 use Rattle.rip_plan.specs.declared.parts.Seat.TheVariants as seats
 use Rattle.rip_check.specs.declared.failures.Failure.{Failure}
 use Rattle.rip_check.specs.declared.failures.Failure.TheVariants as failures
+use Rattle.rip_check.specs.Networks.{block_at}
 
 -- what has failed is a link or a router of the plan
 abbrev pub IsKnown : Network → Failure → Type 0
@@ -59,3 +61,8 @@ network_after n f = record {
 abbrev pub network_left : Network → Option Failure → Network
 network_left n None = n
 network_left n (Some f) = network_after n f
+
+-- what is left of a network to a prefix of its plan, by its number: first what has failed is left
+-- out, then the links that do not exchange the prefix
+abbrev pub left_to : Network → Option Failure → ℕ → Network
+left_to n f p = network_where (exchanges n (block_at n.prefixes p)) (network_left n f)

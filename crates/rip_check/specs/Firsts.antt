@@ -1,12 +1,13 @@
 -- Which routes can be read, why others can't, and which place is the first.
 use Rattle.std.specs.Prelude.{◌≡◌, ◌≢◌, ℕ, ◌<◌, ◌⊎◌, Option, None, Some, IsTrue, length}
 use Rattle.rip_plan.specs.Network.{Network}
-use Rattle.rip_plan.specs.Relations.{IsAttached, IsInterface, IsLeaf}
+use Rattle.rip_plan.specs.Relations.{Exchanges, IsAttached, IsInterface, IsLeaf}
 use Rattle.rip_table.specs.State.{State}
-use Rattle.rip_check.specs.Tables.{IsHeard, IsOnlyRoute, Route, Tells}
+use Rattle.rip_check.specs.Tables.{IsHeard, IsOff, IsOnlyRoute, IsQuiet, IsSilent, Route, Tells}
 use Rattle.rip_check.specs.declared.verdict.Unclear.{Unclear}
 use Rattle.rip_check.specs.declared.verdict.Unclear.TheVariants.{NotHeard, TwoMetrics, Missing, ShownOn, TwoWays}
 use Rattle.rip_check.specs.Metrics.{metric_at}
+use Rattle.rip_check.specs.Networks.{block_at, network_at}
 
 -- of two places, router s and prefix q, and router r and prefix p, the first comes before the
 -- second: by router, then by prefix
@@ -44,12 +45,18 @@ IsFirstOf bound Fine None = (s : ℕ) → s < bound → Fine s
 IsFirstOf bound Fine (Some r) =
     (r < bound) × ((s : ℕ) → s < r → Fine s) × (Fine r → ⊥)
 
--- exactly one route fits what router r shows of prefix p; of a router with one interface, at least
--- one
+-- exactly one route fits what router r shows of prefix p; of a router with one interface or none, at
+-- least one
 abbrev pub IsReadable : Network → State → ℕ → ℕ → Type 0
 IsReadable n shown r p =
     (t : Route) × Tells n shown r p t
-    × (IsOnlyRoute n shown r p t ⊎ ((i l c : ℕ) × IsLeaf n r i l c))
+    × (IsOnlyRoute n shown r p t ⊎ (((i l c : ℕ) × IsLeaf n r i l c) ⊎ IsOff n r))
+
+-- a route can be read of what router r shows of the prefix of this number: nothing below 16 where it
+-- is not exchanged, and in its network a route
+pub record CanBeRead (n : Network) (shown : State) (r p : ℕ) : Type 0 where
+  pub quiet : IsQuiet n shown r p
+  pub readable : IsReadable (network_at n shown.prefixes p) shown r p
 
 -- interface i of router r shows metric m, which is below 16
 pub record IsShownBelow (n : Network) (shown : State) (r p i m : ℕ) : Type 0 where
@@ -111,6 +118,24 @@ IsReason n shown r p (TwoWays s q) =
     (s ≡ r) × (q ≡ p) × (ShowsTwo n shown r p → ⊥) × ShowsEach n shown r p
     × ((l : ℕ) → ShowsWhereAttached n shown r p l → ⊥)
 
+-- the first interface of the router that shows a metric below 16 where the prefix of this number is
+-- not exchanged is on this link
+pub record IsFirstLoud (n : Network) (shown : State) (r p l : ℕ) : Type 0 where
+  pub interface : ℕ
+  pub cost : ℕ
+  pub its : IsInterface n interface r l cost
+  pub closed : Exchanges n l (block_at shown.prefixes p) → ⊥
+  pub loud : IsSilent (metric_at shown interface p) → ⊥
+  pub before : (j k d : ℕ) → j < interface → IsInterface n j r k d
+      → (Exchanges n k (block_at shown.prefixes p) → ⊥) → IsSilent (metric_at shown j p)
+
+-- why no route of router r for the prefix of this number can be read: it shows the prefix where it
+-- is not exchanged; else by the network of the prefix
+abbrev pub IsCause : Network → State → ℕ → ℕ → Unclear → Type 0
+IsCause n shown r p u =
+    ((l : ℕ) × IsFirstLoud n shown r p l × (u ≡ ShownOn r p l))
+    ⊎ (IsQuiet n shown r p × IsReason (network_at n shown.prefixes p) shown r p u)
+
 -- the first interface that was not heard is router r's on link l
 pub record IsFirstUnheard (n : Network) (shown : State) (r l : ℕ) : Type 0 where
   pub interface : ℕ
@@ -137,8 +162,8 @@ pub record IsFirstUnclear
     : Type 0 where
   pub router : ℕ
   pub prefix : ℕ
-  pub first : IsFirst n (length shown.prefixes) None (IsReadable n shown) router prefix
-  pub reason : IsReason n shown router prefix unclear
+  pub first : IsFirst n (length shown.prefixes) None (CanBeRead n shown) router prefix
+  pub reason : IsCause n shown router prefix unclear
 
 -- the first trouble: an interface not heard, else a place that can't be read
 abbrev pub IsFirstTrouble : Network → State → Unclear → Type 0

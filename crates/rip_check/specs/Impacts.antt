@@ -8,7 +8,7 @@ use Rattle.rip_check.specs.declared.aftermath.Impact.{Impact}
 use Rattle.rip_check.specs.declared.aftermath.Part.{Part}
 use Rattle.rip_check.specs.declared.failures.Failure.{Failure}
 use Rattle.rip_check.specs.Expected.{IsCount, IsTotal}
-use Rattle.rip_check.specs.Failures.{network_after}
+use Rattle.rip_check.specs.Failures.{left_to}
 use Rattle.rip_check.specs.Losses.{IsGone, IsLonger, IsLost}
 use Rattle.rip_check.specs.Paths.{IsLeast}
 
@@ -22,7 +22,7 @@ pub record HasRoom (n : Network) (aftermath : Aftermath) : Type 0 where
 pub record AreLeft (n : Network) (f : Failure) (aftermath : Aftermath) : Type 0 where
   pub room : HasRoom n aftermath
   pub least : (r p : ℕ) → r < length n.routers → p < length n.prefixes
-      → IsLeast (network_after n f) p r
+      → IsLeast (left_to n (Some f) p) p r
       (slice_index aftermath.metrics.items (r * length n.prefixes + p))
   pub gone : (p : ℕ) (is_gone : Bool) → slice_get aftermath.gone.items p ≡ Some is_gone
       → Decides is_gone (IsGone n f p)

@@ -4,7 +4,8 @@ use Rattle.std.specs.Prelude.{◌≡◌, ℕ, ◌<◌, Some, true, length}
 use Rattle.rip_plan.specs.Network.{Network}
 use Rattle.rip_plan.specs.Relations.{IsDirect}
 use Rattle.rip_check.specs.declared.failures.Failure.{Failure}
-use Rattle.rip_check.specs.Failures.{is_router_up, network_after}
+use Rattle.rip_check.specs.Failures.{is_router_up, left_to, network_after}
+use Rattle.rip_check.specs.Networks.{network_at}
 use Rattle.rip_check.specs.Paths.{IsLeast}
 
 -- prefix p is gone: some router has it directly before the failure, and none after it
@@ -15,8 +16,8 @@ pub record IsGone (n : Network) (f : Failure) (p : ℕ) : Type 0 where
 -- router r, which has not failed, has least metric v for prefix p before the failure, and w after
 pub record IsMoved (n : Network) (f : Failure) (r p v w : ℕ) : Type 0 where
   pub alive : is_router_up (Some f) r ≡ true
-  pub before : IsLeast n p r v
-  pub after : IsLeast (network_after n f) p r w
+  pub before : IsLeast (network_at n n.prefixes p) p r v
+  pub after : IsLeast (left_to n (Some f) p) p r w
 
 -- router r loses prefix p, which is not gone: its least metric is below 16 before the failure, and
 -- 16 after it

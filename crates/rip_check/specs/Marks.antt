@@ -3,8 +3,9 @@ use Rattle.std.specs.Prelude.{◌≡◌, ℕ, ◌+◌, ◌*◌, ◌≤◌, ◌<�
 use Rattle.rip_plan.specs.Network.{Network}
 use Rattle.rip_table.specs.State.{State}
 use Rattle.rip_routes.specs.OwnTables.{OwnTables}
+use Rattle.rip_check.specs.Networks.{network_at}
 use Rattle.rip_check.specs.OwnVerdicts.{IsOwnSound}
-use Rattle.rip_check.specs.Tables.{Route, FitsShown}
+use Rattle.rip_check.specs.Tables.{Route, FitsThere}
 use Rattle.rip_check.specs.Settled.{Holds, IsLeastChoice}
 use Rattle.rip_check.specs.Verdicts.{IsSound}
 use Rattle.rip_check.specs.declared.wrong_places.WrongPlaces.{WrongPlaces}
@@ -13,9 +14,9 @@ use Rattle.rip_check.specs.declared.unsettled.Unsettled.{Unsettled}
 -- a route fits at the place and does not hold, and the equation there gives v
 pub record FailsWith (n : Network) (shown : State) (r p v : ℕ) : Type 0 where
   pub route : Route
-  pub fits : FitsShown n shown r p route
-  pub fails : Holds n shown r p route → ⊥
-  pub equation : IsLeastChoice n shown r p v
+  pub fits : FitsThere n shown r p route
+  pub fails : Holds (network_at n shown.prefixes p) shown r p route → ⊥
+  pub equation : IsLeastChoice (network_at n shown.prefixes p) shown r p v
 
 -- nothing where the place holds or can't be read, else what the equation gives
 pub record IsMark (n : Network) (shown : State) (r p : ℕ) (mark : Option ℕ) : Type 0 where
@@ -38,7 +39,8 @@ AreUnsettled n s unsettled = AreMarked n s (IsMark n s) unsettled.marks.items
 pub record IsOwnMark (n : Network) (told : State) (t : OwnTables) (r p : ℕ) (mark : Option ℕ)
     : Type 0 where
   pub sound : IfNone mark (IsOwnSound n told t r p)
-  pub fails : IfSome mark (λ v. (1 ≤ v) × (v ≤ 16) × IsLeastChoice n told r p v
+  pub fails : IfSome mark (λ v. (1 ≤ v) × (v ≤ 16)
+      × IsLeastChoice (network_at n t.prefixes p) told r p v
       × (IsOwnSound n told t r p → ⊥))
 
 -- these are the places of the routers' own tables that do not hold

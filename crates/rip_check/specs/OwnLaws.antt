@@ -7,7 +7,8 @@ use Rattle.rip_routes.specs.OwnTables.{OwnRoute, OwnTables, route_at}
 use Rattle.rip_routes.specs.declared.next_hop.NextHop.{NextHop}
 use Rattle.rip_routes.specs.declared.next_hop.NextHop.TheVariants.{Over as IsOver}
 use Rattle.rip_check.specs.Expected.{IsExpected}
-use Rattle.rip_check.specs.Laws.{Case, ShowsRightTables}
+use Rattle.rip_check.specs.Laws.{Case, ShowsRightTables, net_of}
+use Rattle.rip_check.specs.Networks.{network_at}
 use Rattle.rip_check.specs.OwnSettled.{AreRightTables, IsEachListed}
 use Rattle.rip_check.specs.OwnTells.{IsToldBy}
 use Rattle.rip_check.specs.OwnVerdicts.{IsNextWrong, IsOwnSound}
@@ -53,7 +54,8 @@ pub record RoundTrip : Type 0 where
 abbrev pub HaveOneEquation : RoundTrip → Type 0
 HaveOneEquation k =
     (r p v : ℕ) → r < length k.log.net.routers → p < length k.own.prefixes
-    → IsLeastChoice k.log.net k.told r p v ↔ IsLeastChoice k.log.net k.log.shown r p v
+    → IsLeastChoice (net_of k.log p) k.told r p v
+    ↔ IsLeastChoice (net_of k.log p) k.log.shown r p v
 
 -- the same places hold by the routers' own tables as by the log
 abbrev pub HoldAlike : RoundTrip → Type 0
@@ -109,4 +111,4 @@ pub record AreExpectedTables (n : Network) (t : OwnTables) : Type 0 where
   pub prefixes : t.prefixes ≡ n.prefixes
   pub listed : IsEachListed n t
   pub routes : (r p : ℕ) → r < length n.routers → p < length n.prefixes
-      → IsExpectedOwn n r p (route_at t r p)
+      → IsExpectedOwn (network_at n n.prefixes p) r p (route_at t r p)

@@ -6,6 +6,7 @@ use Rattle.rip_table.specs.State.{State}
 use Rattle.rip_routes.specs.OwnTables.{OwnTables, OwnRoute, route_at}
 use Rattle.rip_routes.specs.declared.next_hop.NextHop.{NextHop}
 use Rattle.rip_routes.specs.declared.next_hop.NextHop.TheVariants.{Over, Via}
+use Rattle.rip_check.specs.Networks.{network_at}
 use Rattle.rip_check.specs.OwnTells.{HasHop}
 use Rattle.rip_check.specs.Paths.{HasPathOver, Hop, IsLeast, IsPath}
 use Rattle.rip_check.specs.Settled.{IsLeastChoice}
@@ -49,12 +50,13 @@ IsEachListed n t = (r : ℕ) → r < length n.routers → t.listed r ≡ true
 abbrev pub OwnHoldsAll : Network → State → OwnTables → Type 0
 OwnHoldsAll n told t =
     (r p : ℕ) → r < length n.routers → p < length t.prefixes
-    → OwnHolds n told r p (route_at t r p)
+    → OwnHolds (network_at n t.prefixes p) told r p (route_at t r p)
 
 -- every route of the tables is right
 abbrev pub OwnAllRight : Network → OwnTables → Type 0
 OwnAllRight n t =
-    (r p : ℕ) → r < length n.routers → p < length t.prefixes → IsOwnRight n r p (route_at t r p)
+    (r p : ℕ) → r < length n.routers → p < length t.prefixes
+    → IsOwnRight (network_at n t.prefixes p) r p (route_at t r p)
 
 -- each router tells its table, and the tables are right
 pub record AreRightTables (n : Network) (t : OwnTables) : Type 0 where

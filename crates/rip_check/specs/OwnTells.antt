@@ -1,12 +1,13 @@
 -- What routers tell their neighbours, by their own tables: split horizon by link (RFC 2453, 3.4.3).
 use Rattle.std.specs.Prelude.{◌≡◌, ℕ, ◌<◌, ◌⊎◌, true, false, Contains, Option, None, Some, length}
 use Rattle.rip_plan.specs.Network.{Network}
-use Rattle.rip_plan.specs.Relations.{HasAddress, IsAttached, IsGateway, IsInterface, IsNeighbour}
+use Rattle.rip_plan.specs.Relations.{Exchanges, HasAddress, IsAttached, IsGateway, IsInterface, IsNeighbour}
 use Rattle.rip_table.specs.State.{State}
 use Rattle.rip_routes.specs.OwnTables.{OwnTables, route_at}
 use Rattle.rip_routes.specs.declared.next_hop.NextHop.{NextHop}
 use Rattle.rip_routes.specs.declared.next_hop.NextHop.TheVariants.{Over, Via}
 use Rattle.rip_check.specs.Metrics.{metric_at}
+use Rattle.rip_check.specs.Networks.{block_at, network_at}
 
 -- interface j, router s's on link l, has address a for prefix p: it is an address of it, or a
 -- gateway that the router tells as next hop of its own prefix
@@ -45,10 +46,13 @@ TellsThere n t s l p None = IsMute n t s l p
 TellsThere n t s l p (Some m) = (IsMute n t s l p → ⊥) × (m ≡ (route_at t s p).metric)
 
 -- the table of what routers tell, by their own tables: each interface shows what its router tells
--- on its link
+-- on its link, and nothing where that does not exchange the prefix
 pub record IsToldBy (n : Network) (t : OwnTables) (told : State) : Type 0 where
   pub interfaces : told.interfaces ≡ length n.interfaces
   pub prefixes : told.prefixes ≡ t.prefixes
   pub unheard : (i : ℕ) → told.heard i ≡ false
-  pub tells : (i s l c p : ℕ) → IsInterface n i s l c → p < length t.prefixes
-      → TellsThere n t s l p (metric_at told i p)
+  pub tells : (i s l c p : ℕ) → s < length n.routers → p < length t.prefixes
+      → IsInterface (network_at n t.prefixes p) i s l c
+      → TellsThere (network_at n t.prefixes p) t s l p (metric_at told i p)
+  pub nothing : (i s l c p : ℕ) → p < length t.prefixes → IsInterface n i s l c
+      → (Exchanges n l (block_at t.prefixes p) → ⊥) → metric_at told i p ≡ None

@@ -7,6 +7,7 @@ use Rattle.rip_routes.specs.OwnTables.{OwnRoute, OwnTables, route_at}
 use Rattle.rip_routes.specs.declared.next_hop.NextHop.{NextHop}
 use Rattle.rip_routes.specs.declared.next_hop.NextHop.TheVariants.{Over as IsOver, Via as IsVia}
 use Rattle.rip_check.specs.Firsts.{IsBefore, IsFirst}
+use Rattle.rip_check.specs.Networks.{network_at}
 use Rattle.rip_check.specs.OwnSettled.{AreRightTables, IsEachListed, IsHopGiven, OwnHolds}
 use Rattle.rip_check.specs.OwnTells.{HasHop, HasHopAt}
 use Rattle.rip_check.specs.Settled.{IsLeastChoice}
@@ -39,34 +40,39 @@ IsWrongHop n r p (IsVia a) w =
     ((l s : ℕ) × IsFirstHad n r p a l s × (w ≡ Neighbour s l))
     ⊎ (((l s : ℕ) → HasHop n r l s p a → ⊥) × (w ≡ Nobody a))
 
--- the first next hop of the route that does not give its metric is wrong in this way
+-- the first next hop of the route that does not give its metric, in the network of the prefix, is
+-- wrong in this way
 pub record IsFirstWrongHop
     (n : Network) (told : State) (r p : ℕ) (route : OwnRoute) (w : Wrong)
     : Type 0 where
   pub number : ℕ
   pub hop : NextHop
   pub listed : slice_get route.hops number ≡ Some hop
-  pub fails : IsHopGiven n told r p route.metric hop → ⊥
+  pub fails : IsHopGiven (network_at n told.prefixes p) told r p route.metric hop → ⊥
   pub before : (j : ℕ) (h : NextHop) → j < number → slice_get route.hops j ≡ Some h
-      → IsHopGiven n told r p route.metric h
+      → IsHopGiven (network_at n told.prefixes p) told r p route.metric h
   pub wrong : IsWrongHop n r p hop w
 
 -- the first way of the route that does not give its metric is wrong in this way
 abbrev pub IsWrongWay : Network → State → ℕ → ℕ → OwnRoute → Wrong → Type 0
 IsWrongWay n told r p route w =
-    ((route.here ≡ true) × (IsDirect n r p route.metric → ⊥) × (w ≡ Here))
-    ⊎ ((route.here ≡ true → IsDirect n r p route.metric) × IsFirstWrongHop n told r p route w)
+    ((route.here ≡ true) × (IsDirect (network_at n told.prefixes p) r p route.metric → ⊥)
+    × (w ≡ Here))
+    ⊎ ((route.here ≡ true → IsDirect (network_at n told.prefixes p) r p route.metric)
+    × IsFirstWrongHop n told r p route w)
 
 -- What is wrong with a route: its metric is not the equation; or else its first way that does not
 -- give it, the router itself before its next hops.
 abbrev pub IsWrong : Network → State → ℕ → ℕ → OwnRoute → Wrong → Type 0
 IsWrong n told r p route w =
-    ((e : ℕ) × IsLeastChoice n told r p e × (route.metric ≢ e) × (w ≡ Metric e))
-    ⊎ (IsLeastChoice n told r p route.metric × IsWrongWay n told r p route w)
+    ((e : ℕ) × IsLeastChoice (network_at n told.prefixes p) told r p e × (route.metric ≢ e)
+    × (w ≡ Metric e))
+    ⊎ (IsLeastChoice (network_at n told.prefixes p) told r p route.metric
+    × IsWrongWay n told r p route w)
 
 -- the place holds
 abbrev pub IsOwnSound : Network → State → OwnTables → ℕ → ℕ → Type 0
-IsOwnSound n told t r p = OwnHolds n told r p (route_at t r p)
+IsOwnSound n told t r p = OwnHolds (network_at n t.prefixes p) told r p (route_at t r p)
 
 -- the metric of a place and what is wrong there
 pub record IsOwnFailing (n : Network) (told : State) (t : OwnTables) (place : OwnPlace)

@@ -6,6 +6,7 @@ use Rattle.rip_table.specs.State.{State}
 use Rattle.rip_routes.specs.OwnTables.{OwnTables, route_at}
 use Rattle.rip_routes.specs.declared.next_hop.NextHop.{NextHop}
 use Rattle.rip_routes.specs.declared.next_hop.NextHop.TheVariants.{Over, Via}
+use Rattle.rip_check.specs.Networks.{network_at}
 use Rattle.rip_check.specs.OwnTells.{HasHop}
 use Rattle.rip_check.specs.Tables.{Offers}
 
@@ -19,8 +20,8 @@ pub record OwnGoesTo (n : Network) (told : State) (t : OwnTables) (p r s : ℕ) 
   pub hop : NextHop
   pub listed : Contains (route_at t r p).hops hop
   pub link : ℕ
-  pub means : Means n r p hop link s
-  pub offer : Offers n told r link s p (route_at t r p).metric
+  pub means : Means (network_at n t.prefixes p) r p hop link s
+  pub offer : Offers (network_at n t.prefixes p) told r link s p (route_at t r p).metric
 
 -- each router goes to the next
 abbrev pub EachOwnGoesOn : Network → State → OwnTables → ℕ → ℕ → List ℕ → Type 0
@@ -52,14 +53,15 @@ abbrev pub EachOwnCanGoOn : Network → State → OwnTables → Type 0
 EachOwnCanGoOn n told t =
     (p z : ℕ) (before : List ℕ) (h : NextHop) → p < length t.prefixes
     → IsOwnWalk n told t p (before ++ z ∷ []) → Contains (route_at t z p).hops h
-    → (l s : ℕ) × Means n z p h l s × IsOwnWalk n told t p (before ++ z ∷ s ∷ [])
+    → (l s : ℕ) × Means (network_at n t.prefixes p) z p h l s
+    × IsOwnWalk n told t p (before ++ z ∷ s ∷ [])
 
 -- where the last router of a walk is its own way, it is on a link of the prefix, or owns it
 abbrev pub EachOwnEndsThere : Network → State → OwnTables → Type 0
 EachOwnEndsThere n told t =
     (p z : ℕ) (before : List ℕ) → p < length t.prefixes
     → IsOwnWalk n told t p (before ++ z ∷ []) → (route_at t z p).here ≡ true →
-    IsDirect n z p (route_at t z p).metric
+    IsDirect (network_at n t.prefixes p) z p (route_at t z p).metric
 
 -- whoever follows the tables from a metric below 16 arrives, over any choice of their ways, after
 -- at most as many routers as the first one's metric, which are at most fifteen

@@ -1,8 +1,10 @@
 -- When a route agrees with what the neighbours show, and when it is right.
-use Rattle.std.specs.Prelude.{◌≡◌, ℕ, ◌≤◌, ◌<◌, ◌⊎◌, length}
+use Rattle.std.specs.Prelude.{◌≡◌, ℕ, ◌≤◌, ◌<◌, ◌⊎◌, List, length}
+use Rattle.rip_wire.specs.Prefix.{Block}
 use Rattle.rip_plan.specs.Network.{Network}
 use Rattle.rip_plan.specs.Relations.{IsDirect, IsKept}
 use Rattle.rip_table.specs.State.{State}
+use Rattle.rip_check.specs.Networks.{network_at}
 use Rattle.rip_check.specs.Paths.{HasAtCost, HasPathOver, HasPlainPathOver, IsLeast, IsPlainLeast}
 use Rattle.rip_check.specs.Tables.{Tables, Route, Offers}
 use Rattle.rip_check.specs.declared.way.Way.{Way}
@@ -55,11 +57,14 @@ pub record IsPlainRight (n : Network) (r p : ℕ) (route : Route) : Type 0 where
   pub least : IsPlainLeast n p r route.metric
   pub goes : GoesPlainly n p r route.metric route.way
 
--- each place's equation holds
+-- each place's equation holds, in the network of its prefix
 abbrev pub HoldsAll : Network → State → Tables → Type 0
 HoldsAll n shown T =
-    (r p : ℕ) → r < length n.routers → p < length shown.prefixes → Holds n shown r p (T r p)
+    (r p : ℕ) → r < length n.routers → p < length shown.prefixes
+    → Holds (network_at n shown.prefixes p) shown r p (T r p)
 
--- each route is right
-abbrev pub AllRight : Network → ℕ → Tables → Type 0
-AllRight n count T = (r p : ℕ) → r < length n.routers → p < count → IsRight n r p (T r p)
+-- each route is right, in the network of its prefix
+abbrev pub AllRight : Network → List Block → Tables → Type 0
+AllRight n prefixes T =
+    (r p : ℕ) → r < length n.routers → p < length prefixes
+    → IsRight (network_at n prefixes p) r p (T r p)

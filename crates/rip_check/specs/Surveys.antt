@@ -1,13 +1,14 @@
 -- What a router shows of a prefix: of its interfaces before a bound.
 use Rattle.std.specs.Prelude.{◌≡◌, ◌≢◌, ℕ, ◌≤◌, ◌<◌, ◌⊎◌, Bool, true, false, Option, None, Some}
 use Rattle.rip_plan.specs.Network.{Network}
-use Rattle.rip_plan.specs.Relations.{IsAttached, IsInterface}
+use Rattle.rip_plan.specs.Relations.{Exchanges, HasTwoInterfaces, IsAttached, IsInterface}
 use Rattle.rip_table.specs.State.{State}
 use Rattle.rip_check.specs.declared.surveys.Survey.{Survey}
 use Rattle.rip_check.specs.declared.way.Way.TheVariants.{Over}
 use Rattle.rip_check.specs.Tables.{IsAsTold, IsSilent, MayHoldBack}
-use Rattle.rip_check.specs.Firsts.{IsShownBelow}
+use Rattle.rip_check.specs.Firsts.{IsFirstLoud, IsShownBelow}
 use Rattle.rip_check.specs.Metrics.{metric_at}
+use Rattle.rip_check.specs.Networks.{block_at}
 
 -- router r shows this metric somewhere
 abbrev pub IsSpoken : Network → State → ℕ → ℕ → ℕ → Type 0
@@ -58,3 +59,19 @@ pub record IsSurvey (n : Network) (shown : State) (r p bound : ℕ) (found : Sur
   pub speech : IsSpeech n shown r p bound found.metric found.another
   pub silence : IsSilence n shown r p bound found.silent found.blocked
   pub telling : IsTelling n shown r p bound found.not_here
+
+-- the first interface of the router before the bound, if there is one, and whether there is another
+pub record IsReach (n : Network) (r bound : ℕ) (first : Option ℕ) (more : Bool) : Type 0 where
+  pub some : (i : ℕ) → first ≡ Some i → (l c : ℕ) × IsInterface n i r l c
+  pub none : first ≡ None → (i l c : ℕ) → i < bound → IsInterface n i r l c → ⊥
+  pub two : more ≡ true → HasTwoInterfaces n r
+  pub one : more ≡ false → (i j l c : ℕ) → first ≡ Some i → j < bound → IsInterface n j r l c
+      → j ≡ i
+
+-- the link of the first interface before the bound that shows a metric below 16 where the prefix of
+-- this number is not exchanged, if there is one
+abbrev pub IsLoudness : Network → State → ℕ → ℕ → ℕ → Option ℕ → Type 0
+IsLoudness n shown r p bound None =
+    (i l c : ℕ) → i < bound → IsInterface n i r l c
+    → (Exchanges n l (block_at shown.prefixes p) → ⊥) → IsSilent (metric_at shown i p)
+IsLoudness n shown r p bound (Some l) = IsFirstLoud n shown r p l

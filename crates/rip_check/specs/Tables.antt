@@ -3,9 +3,10 @@ use Rattle.std.specs.Prelude.{◌≡◌, ◌≢◌, ℕ, ◌+◌, ◌≤◌, ◌
 use Rattle.rip_check.specs.declared.way.Way.{Way}
 use Rattle.rip_check.specs.declared.way.Way.TheVariants.{Unreachable, Here, Over}
 use Rattle.rip_plan.specs.Network.{Network}
-use Rattle.rip_plan.specs.Relations.{IsInterface, HasCost, IsNeighbour, IsDirect, IsOn, IsLeaf, Carries, IsAttached}
+use Rattle.rip_plan.specs.Relations.{IsInterface, HasCost, IsNeighbour, IsDirect, IsOn, IsLeaf, Carries, Exchanges, IsAttached}
 use Rattle.rip_table.specs.State.{State}
 use Rattle.rip_check.specs.Metrics.{metric_at}
+use Rattle.rip_check.specs.Networks.{block_at, network_at}
 
 -- a router's route for a prefix: 16 where it has none (RFC 2453, 3.6), and the way that a packet
 -- goes
@@ -76,6 +77,15 @@ pub record IsHiddenRoute
       IsLeastOffer n shown r p route.metric × (route.metric < 16 → route.way ≡ Over l)
       × (route.metric ≡ 16 → route.way ≡ Unreachable)
 
+-- router r has no interface
+abbrev pub IsOff : Network → ℕ → Type 0
+IsOff n r = (i l c : ℕ) → IsInterface n i r l c → ⊥
+
+-- The route of a router without an interface, which shows nothing: its own prefix, or none.
+pub record IsLoneRoute (n : Network) (r p : ℕ) (route : Route) : Type 0 where
+  pub own : (c : ℕ) → IsDirect n r p c → (route.way ≡ Here) × (route.metric ≡ c)
+  pub none : ((c : ℕ) → IsDirect n r p c → ⊥) → (route.way ≡ Unreachable) × (route.metric ≡ 16)
+
 -- the route could be behind all that router r shows of prefix p
 pub record Tells (n : Network) (shown : State) (r p : ℕ) (route : Route) : Type 0 where
   pub way_fits : FitsWay n r p route.metric route.way
@@ -90,13 +100,26 @@ IsOnlyRoute n shown r p route = (other : Route) → Tells n shown r p other → 
 pub record FitsShown (n : Network) (shown : State) (r p : ℕ) (route : Route) : Type 0 where
   pub told : Tells n shown r p route
   pub hidden : (i l c : ℕ) → IsLeaf n r i l c → IsHiddenRoute n shown r i l p route
+  pub lone : IsOff n r → IsLoneRoute n r p route
 
 -- each interface was heard
 abbrev pub IsHeard : Network → State → Type 0
 IsHeard n shown = (i r l c : ℕ) → IsInterface n i r l c → IsTrue (shown.heard i)
 
+-- router r shows nothing below 16 of the prefix of this number where it is not exchanged
+abbrev pub IsQuiet : Network → State → ℕ → ℕ → Type 0
+IsQuiet n shown r p =
+    (i l c : ℕ) → IsInterface n i r l c → (Exchanges n l (block_at shown.prefixes p) → ⊥)
+    → IsSilent (metric_at shown i p)
+
+-- the route could be behind what router r shows of the prefix of this number, by its network, and
+-- the router shows nothing of it elsewhere
+pub record FitsThere (n : Network) (shown : State) (r p : ℕ) (route : Route) : Type 0 where
+  pub quiet : IsQuiet n shown r p
+  pub fits : FitsShown (network_at n shown.prefixes p) shown r p route
+
 -- the log shows these route tables, for each prefix of its table's list
 pub record Shows (n : Network) (shown : State) (T : Tables) : Type 0 where
   pub heard : IsHeard n shown
   pub fits : (r p : ℕ) → r < length n.routers → p < length shown.prefixes
-      → FitsShown n shown r p (T r p)
+      → FitsThere n shown r p (T r p)

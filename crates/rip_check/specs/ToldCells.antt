@@ -4,9 +4,10 @@ use Rattle.std.specs.declared.alloc.Global.{Global}
 use Rattle.std.specs.Prelude.{◌≡◌, ◌≢◌, ℕ, zero, suc, ◌<◌, ◌⊎◌, Bool, true, false, Decides, Option, None, Some, List, option_and_then, length, map, slice_get, slice_index, slice_index_or}
 use Rattle.rip_wire.specs.Prefix.{Block}
 use Rattle.rip_plan.specs.Network.{Network, number_of_prefix}
-use Rattle.rip_plan.specs.Relations.{IsAttached, IsInterface}
+use Rattle.rip_plan.specs.Relations.{Exchanges, IsAttached, IsInterface}
 use Rattle.rip_table.specs.State.{State}
 use Rattle.rip_routes.specs.OwnTables.{OwnTables, route_at}
+use Rattle.rip_check.specs.Networks.{block_at, network_at}
 use Rattle.rip_check.specs.OwnTells.{HasHopAt, IsMute}
 
 -- what a cell shows: nothing for 0, else its metric
@@ -34,11 +35,14 @@ IsCell n t s l p v =
     ((v ≡ 0) × IsMute n t s l p)
     ⊎ ((v ≡ (route_at t s p).metric) × (IsMute n t s l p → ⊥))
 
--- the row of prefix p has the cells of the interfaces of the routers below a bound
+-- the row of prefix p has the cells of the interfaces of the routers below a bound, and 0 where
+-- they do not exchange the prefix
 pub record IsRowBelow (n : Network) (t : OwnTables) (p bound : ℕ) (row : List ℕ) : Type 0 where
   pub size : length row ≡ length n.interfaces
-  pub cells : (i s l c : ℕ) → s < bound → IsInterface n i s l c
-      → IsCell n t s l p (slice_index row i)
+  pub cells : (i s l c : ℕ) → s < bound → IsInterface (network_at n t.prefixes p) i s l c
+      → IsCell (network_at n t.prefixes p) t s l p (slice_index row i)
+  pub closed : (i s l c : ℕ) → s < bound → IsInterface n i s l c
+      → (Exchanges n l (block_at t.prefixes p) → ⊥) → slice_index row i ≡ 0
 
 -- the row of prefix p
 abbrev pub IsToldRow : Network → OwnTables → ℕ → List ℕ → Type 0

@@ -1,10 +1,11 @@
 -- The two least metrics that different routers have on a link.
 use Rattle.std.specs.Prelude.{◌≡◌, ◌≢◌, ℕ, ◌≤◌, ◌<◌, ◌⊎◌, List, Some, length, slice_get, unwrap_or}
 use Rattle.rip_plan.specs.Network.{Network}
-use Rattle.rip_plan.specs.Relations.{IsInterface}
+use Rattle.rip_plan.specs.Relations.{Exchanges, IsInterface}
 use Rattle.rip_table.specs.State.{State}
 use Rattle.rip_check.specs.declared.links.TwoLeast.{TwoLeast}
 use Rattle.rip_check.specs.Metrics.{metric_at}
+use Rattle.rip_check.specs.Networks.{block_at, network_at}
 
 -- what interface j shows of prefix p, 16 where it shows nothing
 abbrev pub shown_of : State → ℕ → ℕ → ℕ → ℕ → ℕ
@@ -33,10 +34,32 @@ abbrev pub AreTwoLeastBefore : Network → (ℕ → ℕ → ℕ → ℕ) → ℕ
 AreTwoLeastBefore n seen bound links =
     (l : ℕ) (two : TwoLeast) → slice_get links l ≡ Some two → IsTwoLeast n seen l bound two
 
-abbrev pub AreTwoLeast : Network → (ℕ → ℕ → ℕ → ℕ) → List TwoLeast → Type 0
-AreTwoLeast n seen links = AreTwoLeastBefore n seen (length n.interfaces) links
+-- of all interfaces on the link
+abbrev pub IsTwoLeastOfAll : Network → (ℕ → ℕ → ℕ → ℕ) → ℕ → TwoLeast → Type 0
+IsTwoLeastOfAll n seen l two = IsTwoLeast n seen l (length n.interfaces) two
 
--- these are the two least metrics that are shown of prefix p on each link
-abbrev pub AreLeastShown : Network → State → ℕ → List TwoLeast → Type 0
-AreLeastShown n shown p links =
-    (length n.links ≤ length links) × AreTwoLeast n (shown_of shown p) links
+abbrev pub AreTwoLeast : Network → (ℕ → ℕ → ℕ → ℕ) → List TwoLeast → Type 0
+AreTwoLeast n seen links =
+    (l : ℕ) (two : TwoLeast) → slice_get links l ≡ Some two → IsTwoLeastOfAll n seen l two
+
+-- the link is closed, which 255 says in the place of a router's number
+abbrev pub IsClosed : TwoLeast → Type 0
+IsClosed two = two.by ≡ 255
+
+-- no link is closed
+abbrev pub AreFree : List TwoLeast → Type 0
+AreFree links = (l : ℕ) (two : TwoLeast) → slice_get links l ≡ Some two → IsClosed two → ⊥
+
+-- this is of link l, for the prefix of this number: it is closed where it does not exchange the
+-- prefix, and then has 16; if not, these are the two least metrics that are shown there
+pub record IsLeastShown (n : Network) (shown : State) (p l : ℕ) (two : TwoLeast) : Type 0 where
+  pub open_is : (IsClosed two → ⊥) → Exchanges n l (block_at shown.prefixes p)
+      × IsTwoLeastOfAll (network_at n shown.prefixes p) (shown_of shown p) l two
+  pub shut_is : IsClosed two → (Exchanges n l (block_at shown.prefixes p) → ⊥)
+      × (two.least ≡ 16) × (two.next ≡ 16)
+
+-- each element of the list is of the link with its number
+pub record AreLeastShown (n : Network) (shown : State) (p : ℕ) (links : List TwoLeast) : Type 0 where
+  pub size : length n.links ≤ length links
+  pub each : (l : ℕ) (two : TwoLeast) → l < length n.links → slice_get links l ≡ Some two
+      → IsLeastShown n shown p l two

@@ -1,9 +1,10 @@
 -- When a failure changes no least metric of a prefix but those of a router that has failed.
-use Rattle.std.specs.Prelude.{◌≡◌, ℕ, ◌+◌, ◌<◌, ◌⊎◌, Some, true}
+use Rattle.std.specs.Prelude.{◌≡◌, ℕ, ◌+◌, ◌<◌, ◌⊎◌, Some, length, true}
 use Rattle.rip_plan.specs.Network.{Network}
 use Rattle.rip_plan.specs.Relations.{Carries, HasCost, IsAttached, IsDirect, IsOn}
 use Rattle.rip_check.specs.declared.failures.Failure.{Failure}
-use Rattle.rip_check.specs.Failures.{is_link_up, is_router_up, network_after}
+use Rattle.rip_check.specs.Failures.{is_link_up, is_router_up, left_to}
+use Rattle.rip_check.specs.Networks.{network_at}
 use Rattle.rip_check.specs.Paths.{IsLeast, MayHop}
 
 -- over an interface of cost c to router s a least path of p from router r may begin: c and the
@@ -20,13 +21,14 @@ pub record IsStep (n : Network) (p r c s : ℕ) : Type 0 where
 -- itself, or an interface and a neighbour there
 abbrev pub HasWayLeft : Network → Failure → ℕ → ℕ → ℕ → Type 0
 HasWayLeft n f p r v =
-    IsDirect (network_after n f) r p v
-    ⊎ ((l s c w : ℕ) × HasCost (network_after n f) r l c × MayHop (network_after n f) p r l s
-    × IsLeast n p s w × (v ≡ c + w))
+    IsDirect (left_to n (Some f) p) r p v
+    ⊎ ((l s c w : ℕ) × HasCost (left_to n (Some f) p) r l c × MayHop (left_to n (Some f) p) p r l s
+    × IsLeast (network_at n n.prefixes p) p s w × (v ≡ c + w))
 
 -- so for its least metric of before, where that is below 16
 abbrev pub KeepsWay : Network → Failure → ℕ → ℕ → Type 0
-KeepsWay n f p r = (v : ℕ) → IsLeast n p r v → v < 16 → HasWayLeft n f p r v
+KeepsWay n f p r =
+    (v : ℕ) → IsLeast (network_at n n.prefixes p) p r v → v < 16 → HasWayLeft n f p r v
 
 -- router s and link l have not failed
 pub record IsStepUp (f : Failure) (l s : ℕ) : Type 0 where
@@ -36,7 +38,8 @@ pub record IsStepUp (f : Failure) (l s : ℕ) : Type 0 where
 -- a router from which a least path begins over a failed link or to a failed router has another way;
 -- no failed link carries the prefix, and no router has it attached to one
 pub record IsUntouched (n : Network) (f : Failure) (p : ℕ) : Type 0 where
-  pub steps : (r l c s : ℕ) → HasCost n r l c → IsOn n s l → IsStep n p r c s
+  pub steps : (r l c s : ℕ) → r < length n.routers → HasCost (network_at n n.prefixes p) r l c
+      → IsOn (network_at n n.prefixes p) s l → IsStep (network_at n n.prefixes p) p r c s
       → IsStepUp f l s ⊎ KeepsWay n f p r
   pub carried : (l : ℕ) → Carries n l p → is_link_up (Some f) l ≡ true
   pub attached : (r l : ℕ) → IsAttached n r p l → is_link_up (Some f) l ≡ true

@@ -3,39 +3,51 @@ use Rattle.std.specs.Prelude.{◌≡◌, ℕ, ◌≤◌, ◌<◌, ◌⊎◌, ◌
 use Rattle.rip_plan.specs.Network.{Network}
 use Rattle.rip_plan.specs.Relations.{IsLeaf}
 use Rattle.rip_table.specs.State.{State}
-use Rattle.rip_check.specs.Tables.{Tables, Shows, Route, FitsShown, IsOnlyRoute, IsSilent, MayHoldBack}
+use Rattle.rip_check.specs.Tables.{Tables, Shows, Route, FitsShown, FitsThere, IsOff, IsOnlyRoute, IsSilent, MayHoldBack}
 use Rattle.rip_check.specs.Settled.{Holds, IsLeastChoice}
 use Rattle.rip_check.specs.Laws.{ShowsRightTables}
-use Rattle.rip_check.specs.Firsts.{AreFine, IsFirst, IsFirstAt, IsFirstTrouble, IsReadable}
+use Rattle.rip_check.specs.Firsts.{AreFine, CanBeRead, IsFirst, IsFirstAt, IsFirstTrouble}
 use Rattle.rip_check.specs.declared.routes.ReadRoute.{ReadRoute}
 use Rattle.rip_check.specs.declared.verdict.Place2.{Place2}
 use Rattle.rip_check.specs.declared.verdict.Verdict.{Verdict}
 use Rattle.rip_check.specs.declared.verdict.Verdict.TheVariants.{Settled, Unsettled, Unclear as IsUnclear}
 use Rattle.rip_check.specs.Metrics.{metric_at}
+use Rattle.rip_check.specs.Networks.{network_at}
 
 -- the log shows tables
 abbrev pub ShowsTables : Network → State → Type 0
 ShowsTables n shown = (T : Tables) × Shows n shown T
 
--- the router's metric is not in what it shows
+-- the router's metric is not in what it shows: it has one interface, or none
 abbrev pub IsHidden : Network → State → ℕ → ℕ → Type 0
 IsHidden n shown r p =
-    (i l c : ℕ) × IsLeaf n r i l c
+    ((i l c : ℕ) × IsLeaf n r i l c
     × ((MayHoldBack n r p l × IsSilent (metric_at shown i p))
-    ⊎ ((MayHoldBack n r p l → ⊥) × (metric_at shown i p ≡ Some 16)))
+    ⊎ ((MayHoldBack n r p l → ⊥) × (metric_at shown i p ≡ Some 16))))
+    ⊎ IsOff n r
 
 -- each route that fits at the place holds
 abbrev pub IsSound : Network → State → ℕ → ℕ → Type 0
-IsSound n shown r p = (t : Route) → FitsShown n shown r p t → Holds n shown r p t
+IsSound n shown r p =
+    (t : Route) → FitsThere n shown r p t → Holds (network_at n shown.prefixes p) shown r p t
+
+-- the route of a place
+abbrev pub its_route : Place2 → Route
+its_route place = record { metric = place.metric; way = place.way }
+
+-- the network of a place's prefix
+abbrev pub its_network : Network → State → Place2 → Network
+its_network n shown place = network_at n shown.prefixes place.prefix
 
 -- the values of a place whose route fails
 pub record IsFailing (n : Network) (shown : State) (place : Place2) : Type 0 where
-  pub fits : FitsShown n shown place.router place.prefix
-      (record { metric = place.metric; way = place.way })
-  pub fails : Holds n shown place.router place.prefix
-      (record { metric = place.metric; way = place.way }) → ⊥
-  pub equation : IsLeastChoice n shown place.router place.prefix place.equation
-  pub hidden : IsTrue place.hidden ↔ IsHidden n shown place.router place.prefix
+  pub fits : FitsThere n shown place.router place.prefix (its_route place)
+  pub fails : Holds (its_network n shown place) shown place.router place.prefix (its_route place)
+      → ⊥
+  pub equation : IsLeastChoice (its_network n shown place) shown place.router place.prefix
+      place.equation
+  pub hidden : IsTrue place.hidden
+      ↔ IsHidden (its_network n shown place) shown place.router place.prefix
 
 -- the first place after the given one, if one is given, that can be read and does not hold, with
 -- its values
@@ -56,9 +68,9 @@ IsVerdict n shown (IsUnclear unclear) = IsFirstTrouble n shown unclear
 -- of the first prefixes: a place is the first that can't be read, or each can be read, and the
 -- first that does not hold is this, if there is one
 abbrev pub IsFirstPlace : Network → State → ℕ → Result (Option (ℕ × ℕ)) (ℕ × ℕ) → Type 0
-IsFirstPlace n shown count (Err a) = IsFirstAt n count (IsReadable n shown) (Some a)
+IsFirstPlace n shown count (Err a) = IsFirstAt n count (CanBeRead n shown) (Some a)
 IsFirstPlace n shown count (Ok failing) =
-    IsFirstAt n count (IsReadable n shown) None × IsFirstAt n count (IsSound n shown) failing
+    IsFirstAt n count (CanBeRead n shown) None × IsFirstAt n count (IsSound n shown) failing
 
 -- the first failing place of router r from a prefix on
 pub record IsRowFirst

@@ -3,6 +3,7 @@ use Rattle.std.specs.Prelude.{◌≡◌, ℕ, ◌≤◌, ◌<◌, List, [], ◌�
 use Rattle.rip_plan.specs.Network.{Network}
 use Rattle.rip_plan.specs.Relations.{IsDirect}
 use Rattle.rip_table.specs.State.{State}
+use Rattle.rip_check.specs.Networks.{network_at}
 use Rattle.rip_check.specs.Tables.{Tables, Offers, Shows}
 use Rattle.rip_check.specs.declared.way.Way.TheVariants.{Here, Over}
 
@@ -11,7 +12,7 @@ use Rattle.rip_check.specs.declared.way.Way.TheVariants.{Here, Over}
 pub record GoesTo (n : Network) (shown : State) (T : Tables) (p r s : ℕ) : Type 0 where
   pub link : ℕ
   pub way : (T r p).way ≡ Over link
-  pub offer : Offers n shown r link s p (T r p).metric
+  pub offer : Offers (network_at n shown.prefixes p) shown r link s p (T r p).metric
 
 -- each router goes to the next
 abbrev pub EachGoesOn : Network → State → Tables → ℕ → ℕ → List ℕ → Type 0
@@ -51,7 +52,7 @@ EachCanGoOn n shown T =
 abbrev pub EachEndsThere : Network → State → Tables → Type 0
 EachEndsThere n shown T =
     (p z : ℕ) (before : List ℕ) → p < length shown.prefixes → IsWalk n shown T p (before ++ z ∷ [])
-    → HasArrived T p z → IsDirect n z p (T z p).metric
+    → HasArrived T p z → IsDirect (network_at n shown.prefixes p) z p (T z p).metric
 
 -- walks are short, go on until they have arrived, and arrive where the prefix is
 pub record WalksArrive (n : Network) (shown : State) (T : Tables) : Type 0 where

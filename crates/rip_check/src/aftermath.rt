@@ -1,9 +1,9 @@
 //! What a failure leaves of the right routes of a plan, and what it costs.
 
-ghost use Rattle.std.specs.Prelude.{◌≡◌, ℕ, ◌<◌, ◌≤◌, Decides, IfOk, length, nat_lt, slice_index};
+ghost use Rattle.std.specs.Prelude.{◌≡◌, ℕ, ◌<◌, ◌≤◌, Decides, IfOk, Some, length, nat_lt, slice_index};
 ghost use Rattle.rip_plan.specs.Relations.{IsDirect};
 ghost use Rattle.rip_check.specs.Expected.{AreExpected, IsCount};
-ghost use Rattle.rip_check.specs.Failures.{IsKnown, network_after, network_left};
+ghost use Rattle.rip_check.specs.Failures.{IsKnown, left_to, network_left};
 ghost use Rattle.rip_check.specs.Impacts.{AreLeft, HasRoom, IsChange, IsImpact, IsPart};
 ghost use Rattle.rip_check.specs.Losses.{IsGone, IsLost, Loses};
 ghost use Rattle.rip_check.specs.Paths.{IsLeast};
@@ -89,8 +89,8 @@ fn find_after(scenario: &Scenario<'_>, row: &mut [u8])
     requires scenario { IsScenario scenario.now }
     requires size { length row.old ≡ length scenario.now.plan.now.routers }
     ensures { (r : ℕ) → r < length scenario.now.plan.now.routers →
-        IsLeast (network_after scenario.now.plan.now scenario.now.failure) scenario.now.prefix r
-        (slice_index row.new r) }
+        IsLeast (left_to scenario.now.plan.now (Some scenario.now.failure) scenario.now.prefix)
+        scenario.now.prefix r (slice_index row.new r) }
 {
     scenario.plan.lawful();
     if scenario.touches() {
@@ -141,7 +141,7 @@ impl Aftermath {
         requires left { AreLeft plan.now failure self.now }
         requires router { router < length plan.now.routers }
         requires prefix { prefix < length plan.now.prefixes }
-        ensures { IsLeast (network_after plan.now failure) prefix router result }
+        ensures { IsLeast (left_to plan.now (Some failure) prefix) prefix router result }
     {
         plan.lawful();
         u32::from(self.metrics[router * plan.prefixes() + prefix])

@@ -3,8 +3,8 @@
 ghost use Rattle.std.specs.Prelude.{◌≡◌, ◌↔◌, ℕ, ◌+◌, ◌≤◌, ◌<◌, IfErr, IfNone, IfOk, IfSome, None, Some, length};
 ghost use Rattle.rip_table.specs.State.{Fits};
 ghost use Rattle.rip_check.specs.Tables.{IsHeard};
-ghost use Rattle.rip_check.specs.Firsts.{AreHeardOf, IsFirstOf, IsFirstUnheard, IsFirstUnheardOf, IsReadable, IsFirstTrouble};
-ghost use Rattle.rip_check.specs.Cases.{At, network_of, told_in};
+ghost use Rattle.rip_check.specs.Firsts.{AreHeardOf, CanBeRead, IsFirstOf, IsFirstUnheard, IsFirstUnheardOf, IsFirstTrouble};
+ghost use Rattle.rip_check.specs.Cases.{ByPlan, network_of, plan_of, state_of, told_in};
 ghost use Rattle.rip_check.specs.Verdicts.{IsFirstPlace, IsRowFirst, IsSound, IsVerdict, ShowsTables, IsNextUnsettled, HoldsAfter, IsKnownPlace};
 ghost use Rattle.rip_check.specs.Laws.{ShowsRightTables, EachPlaceHolds};
 ghost use Rattle.rip_check.specs.Walks.{PacketsArrive};
@@ -33,23 +33,26 @@ fn first_unheard<T: Table>(plan: &Plan, table: &T) -> Option<Interface>
     None
 }
 
-/// The link of the first interface of a router that was not heard. What the router's silence is
-/// read as, a route or none, is then not known.
-pub fn unheard_link<T: Table>(plan: &Plan, table: &T, router: usize) -> Option<usize>
-    requires fits { Fits plan.now (T.state table.now) }
-    requires router { router < length plan.now.routers }
-    ensures some { IfSome result (λ l.
-        IsFirstUnheardOf plan.now (T.state table.now) router l) }
-    ensures none { IfNone result (AreHeardOf plan.now (T.state table.now) router) }
-{
-    let numbers = plan.of_router(router);
-    for i in numbers {
-        let own = plan.interface(*i);
-        if !table.heard(*i) {
-            return Some(own.link);
+impl<T: Table> Case<'_, T> {
+    /// The link of a router's first interface that was not heard, of those on links that exchange the
+    /// prefix.
+    pub fn unheard_link(&self, router: usize) -> Option<usize>
+        requires { router < length (plan_of self.now).routers }
+        ensures some { IfSome result
+            (IsFirstUnheardOf (network_of self.now) (state_of self.now) router) }
+        ensures none { IfNone result
+            (AreHeardOf (network_of self.now) (state_of self.now) router) }
+    {
+        self.lawful();
+        let numbers = self.plan.of_router(router);
+        for i in numbers {
+            let own = self.plan.interface(*i);
+            if self.exchanges(own.link) && !self.table.heard(*i) {
+                return Some(own.link);
+            }
         }
+        None
     }
-    None
 }
 
 /// The first place of a router, from a prefix on, that does not hold.
@@ -99,7 +102,7 @@ pub fn next_unsettled<T: Table>(
 /// The first router below a bound whose place can't be read.
 fn first_unreadable<T: Table>(case: &Case<'_, T>, below: usize) -> Option<usize>
     requires { below ≤ length (network_of case.now).routers }
-    ensures { IsFirstOf below (At case.now IsReadable) result }
+    ensures { IsFirstOf below (ByPlan case.now CanBeRead) result }
 {
     case.plan.lawful();
     for router in 0..below {
@@ -115,10 +118,10 @@ fn first_unreadable<T: Table>(case: &Case<'_, T>, below: usize) -> Option<usize>
 fn first_failing<T: Table>(case: &Case<'_, T>, below: usize) -> Result<Option<usize>, usize>
     requires { below ≤ length (network_of case.now).routers }
     ensures unreadable { IfErr result (λ r. IsFirstOf (length (network_of case.now).routers)
-        (At case.now IsReadable) (Some r)) }
+        (ByPlan case.now CanBeRead) (Some r)) }
     ensures readable { IfOk result (λ _. IsFirstOf (length (network_of case.now).routers)
-        (At case.now IsReadable) None) }
-    ensures failing { IfOk result (IsFirstOf below (At case.now IsSound)) }
+        (ByPlan case.now CanBeRead) None) }
+    ensures failing { IfOk result (IsFirstOf below (ByPlan case.now IsSound)) }
 {
     case.plan.lawful();
     let mut first = None;
@@ -139,8 +142,8 @@ type FirstPlace = Result<Option<(usize, usize)>, (usize, usize)>;
 
 /// The first place, with the places of the next prefix.
 fn with_prefix<T: Table>(case: &Case<'_, T>, found: FirstPlace) -> FirstPlace
-    requires { IsFirstPlace (network_of case.now) (told_in case.now) case.now.prefix found }
-    ensures { IsFirstPlace (network_of case.now) (told_in case.now) (case.now.prefix + 1) result }
+    requires { IsFirstPlace (plan_of case.now) (told_in case.now) case.now.prefix found }
+    ensures { IsFirstPlace (plan_of case.now) (told_in case.now) (case.now.prefix + 1) result }
 {
     match found {
         Err((router, first)) => {

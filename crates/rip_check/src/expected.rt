@@ -3,6 +3,7 @@
 ghost use Rattle.std.specs.Prelude.{◌≡◌, ◌≢◌, ℕ, ◌+◌, ◌*◌, ◌<◌, ◌≤◌, Decides, IfOk, length, slice_index};
 ghost use Rattle.rip_plan.specs.Relations.{HasCost, IsKept};
 ghost use Rattle.rip_check.specs.Expected.{AreExpected, AreUnreachable, IsCount, IsExpected};
+ghost use Rattle.rip_check.specs.Networks.{network_at};
 ghost use Rattle.rip_check.specs.Paths.{HasPathOver, IsLeast};
 
 use crate::least::find_least;
@@ -57,7 +58,7 @@ impl Expected {
         requires expected { AreExpected plan.now self.now }
         requires router { router < length plan.now.routers }
         requires prefix { prefix < length plan.now.prefixes }
-        ensures { IsLeast plan.now prefix router result }
+        ensures { IsLeast (network_at plan.now plan.now.prefixes prefix) prefix router result }
     {
         plan.lawful();
         u32::from(self.metrics[router * plan.prefixes() + prefix])
@@ -69,7 +70,7 @@ impl Expected {
         requires expected { AreExpected plan.now self.now }
         requires router { router < length plan.now.routers }
         requires prefix { prefix < length plan.now.prefixes }
-        ensures { IsLeast plan.now prefix router result }
+        ensures { IsLeast (network_at plan.now plan.now.prefixes prefix) prefix router result }
     {
         plan.lawful();
         metric_of(self.number(plan, router, prefix))
@@ -80,7 +81,7 @@ impl Expected {
     pub fn least(&self, plan: &Plan, router: usize, prefix: usize) -> Metric
         requires expected { AreExpected plan.now self.now }
         requires router { router < length plan.now.routers }
-        ensures { IsLeast plan.now prefix router result }
+        ensures { IsLeast (network_at plan.now plan.now.prefixes prefix) prefix router result }
     {
         plan.lawful();
         if prefix < plan.prefixes() {
@@ -93,7 +94,7 @@ impl Expected {
     fn unreachable_of(&self, plan: &Plan, router: usize) -> usize
         requires expected { AreExpected plan.now self.now }
         requires router { router < length plan.now.routers }
-        ensures count { IsCount (λ p. IsLeast plan.now p router 16)
+        ensures count { IsCount (λ p. IsLeast (network_at plan.now plan.now.prefixes p) p router 16)
             (length plan.now.prefixes) result }
         ensures most { result ≤ length plan.now.prefixes }
     {
@@ -124,11 +125,16 @@ impl Expected {
     fn is_over(&self, plan: &Plan, own: Interface, prefix: usize, metric: u32) -> bool
         requires expected { AreExpected plan.now self.now }
         requires prefix { prefix < length plan.now.prefixes }
-        requires own { HasCost plan.now own.router own.link own.cost }
-        requires takes { IsKept plan.now own.router prefix → ⊥ }
+        requires router { own.router < length plan.now.routers }
+        requires own { HasCost (network_at plan.now plan.now.prefixes prefix) own.router own.link
+            own.cost }
+        requires takes { IsKept (network_at plan.now plan.now.prefixes prefix) own.router prefix
+            → ⊥ }
         requires small { metric < 16 }
-        requires least { IsLeast plan.now prefix own.router metric }
-        ensures { Decides result (HasPathOver plan.now prefix own.router own.link metric) }
+        requires least { IsLeast (network_at plan.now plan.now.prefixes prefix) prefix own.router
+            metric }
+        ensures { Decides result (HasPathOver (network_at plan.now plan.now.prefixes prefix) prefix
+            own.router own.link metric) }
     {
         plan.lawful();
         let numbers = plan.on_link(own.link);
@@ -157,28 +163,34 @@ impl Expected {
         requires router { router < length plan.now.routers }
         requires prefix { prefix < length plan.now.prefixes }
         requires small { metric < 16 }
-        requires least { IsLeast plan.now prefix router metric }
-        ensures { Decides result (HasPathOver plan.now prefix router link metric) }
+        requires least { IsLeast (network_at plan.now plan.now.prefixes prefix) prefix router
+            metric }
+        ensures { Decides result (HasPathOver (network_at plan.now plan.now.prefixes prefix) prefix
+            router link metric) }
     {
+        plan.lawful();
         if plan.keeps(router, prefix) {
             return false;
         }
         match plan.interface_on(router, link) {
-            Some(own) => self.is_over(plan, own, prefix, metric),
+            Some(own) => {
+                plan.exchanges(link, plan.prefix(prefix)) && self.is_over(plan, own, prefix, metric)
+            }
             None => false,
         }
     }
 
     /// Whether a way is right for a router and a prefix: the route of the least metric that goes
     /// this way is one of the right ones. There may be several, and there is none over a link that
-    /// carries the prefix or that the router is not on, nor over any link where the router keeps
-    /// the prefix.
+    /// carries the prefix or does not exchange it, or that the router is not on, nor over any link
+    /// where the router keeps the prefix.
     pub fn is_right(&self, plan: &Plan, router: usize, prefix: usize, way: Way) -> bool
         requires expected { AreExpected plan.now self.now }
         requires router { router < length plan.now.routers }
         requires prefix { prefix < length plan.now.prefixes }
-        ensures { (m : ℕ) → IsLeast plan.now prefix router m → Decides result
-            (IsExpected plan.now router prefix (record { metric = m; way = way })) }
+        ensures { (m : ℕ) → IsLeast (network_at plan.now plan.now.prefixes prefix) prefix router m →
+            Decides result (IsExpected (network_at plan.now plan.now.prefixes prefix) router prefix
+            (record { metric = m; way = way })) }
     {
         plan.lawful();
         let metric = self.number(plan, router, prefix);

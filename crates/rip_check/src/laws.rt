@@ -4,18 +4,21 @@
 ghost use Rattle.std.specs.Prelude.{◌≡◌, ℕ, ◌↔◌, ◌<◌, ◌≤◌, List, Option, Some, length};
 ghost use Rattle.rip_plan.specs.Network.{Network};
 ghost use Rattle.rip_log.specs.Logs.{Log};
-ghost use Rattle.rip_plan.specs.Relations.{HasTwoInterfaces, IsAttached, IsInterface, IsLawful, IsPlain};
+ghost use Rattle.rip_wire.specs.Prefix.{Block};
+ghost use Rattle.rip_plan.specs.PrefixNetworks.{IsNetwork};
+ghost use Rattle.rip_plan.specs.Relations.{Exchanges, HasList, HasTwoInterfaces, IsAttached, IsInterface, IsLawful, IsPlain};
 ghost use Rattle.rip_table.specs.LogJoin.{IsOutcome};
 ghost use Rattle.rip_table.specs.State.{State, new_state};
 ghost use Rattle.rip_table.specs.declared.error.CollectError.{CollectError};
 ghost use Rattle.rip_check.specs.Expected.{IsExpected};
-ghost use Rattle.rip_check.specs.Failures.{network_after};
-ghost use Rattle.rip_check.specs.Firsts.{IsReadable, IsReason, ShowsTwoWays};
+ghost use Rattle.rip_check.specs.Failures.{left_to, network_after};
+ghost use Rattle.rip_check.specs.Firsts.{CanBeRead, IsReadable, IsReason, ShowsTwoWays};
 ghost use Rattle.rip_check.specs.Laws.{Case, EachIsExpected, EachPlaceHolds, GiversAreNear, HasRightTables, IsSettled, MetricsAreReached, NoPathIsCheaper, OneIsShown, OneRouteFits, PoisonHidesNothing, ShowsRightTables, SilenceIsShared, WalksFall};
 ghost use Rattle.rip_check.specs.Metrics.{IsInRange, metric_at};
+ghost use Rattle.rip_check.specs.Networks.{block_at, network_at};
 ghost use Rattle.rip_check.specs.Paths.{HasPathOver, Hop, IsLeast, IsPath, IsPlainPath};
 ghost use Rattle.rip_check.specs.Settled.{AllRight, IsPlainRight, IsRight};
-ghost use Rattle.rip_check.specs.Tables.{FitsShown, IsHeard, MayHoldBack, Offers, Route, Shows, Tables};
+ghost use Rattle.rip_check.specs.Tables.{FitsShown, FitsThere, IsHeard, IsSilent, MayHoldBack, Offers, Route, Shows, Tables};
 ghost use Rattle.rip_check.specs.Told.{AreAlike, EachPoisons, HasLessPoison, TellsMetric, poisons, told, told_where};
 ghost use Rattle.rip_check.specs.Verdicts.{IsVerdict};
 ghost use Rattle.rip_check.specs.Walks.{EachCanGoOn, EachEndsThere, EachIsShort};
@@ -94,13 +97,13 @@ pub fn expected_routes()
 /// No least path of a prefix begins over a link that carries the prefix, since the router is nearer
 /// itself, or to which the router has it attached, since it keeps it then.
 pub fn no_way_back()
-    ensures { (n : Network) (r p l m : ℕ) → IsLawful n → IsLeast n p r m →
+    ensures { (n : Network) (r p l m : ℕ) → IsNetwork n → IsLeast n p r m →
         HasPathOver n p r l m → ¬ MayHoldBack n r p l }
 {}
 
 /// At each place some way is right for the least metric.
 pub fn some_route()
-    ensures { (n : Network) (r p m : ℕ) → IsLawful n → IsLeast n p r m →
+    ensures { (n : Network) (r p m : ℕ) → IsNetwork n → IsLeast n p r m →
         (way : Way) × IsExpected n r p (record { metric = m; way = way }) }
 {}
 
@@ -118,9 +121,31 @@ pub fn plain_paths()
 /// each path after it is one before it. Where one is attached, its router may keep it no longer,
 /// and so go a shorter way.
 pub fn failures_bring_nothing_nearer()
-    ensures { (n : Network) (f : Failure) (p r v w : ℕ) →
+    ensures whole { (n : Network) (f : Failure) (p r v w : ℕ) →
         ((s q l : ℕ) → IsAttached n s q l → ⊥) → IsLeast n p r v →
         IsLeast (network_after n f) p r w → v ≤ w }
+    ensures prefix { (n : Network) (f : Failure) (p r v w : ℕ) → IsLawful n →
+        ((s q l : ℕ) → IsAttached n s q l → ⊥) → r < length n.routers →
+        IsLeast (network_at n n.prefixes p) p r v → IsLeast (left_to n (Some f) p) p r w → v ≤ w }
+{}
+
+/// In a plan in which no link has a list the network of each prefix is the whole one, so that what
+/// fits, what can be read, what holds and what is right is asked of that.
+pub fn plans_without_lists()
+    ensures network { (n : Network) (prefixes : List Block) (p : ℕ) →
+        ((l : ℕ) → HasList n l → ⊥) → network_at n prefixes p ≡ n }
+    ensures fits { (n : Network) (shown : State) (r p : ℕ) (t : Route) →
+        ((l : ℕ) → HasList n l → ⊥) → FitsThere n shown r p t ↔ FitsShown n shown r p t }
+    ensures read { (n : Network) (shown : State) (r p : ℕ) →
+        ((l : ℕ) → HasList n l → ⊥) → CanBeRead n shown r p ↔ IsReadable n shown r p }
+{}
+
+/// Where right tables are shown, no router of the plan shows a metric below 16 on a link that does
+/// not exchange the prefix.
+pub fn lists_are_kept()
+    ensures { (n : Network) (s : State) (i r l c p : ℕ) → ShowsRightTables n (told n s) →
+        IsInterface n i r l c → r < length n.routers → p < length s.prefixes →
+        (Exchanges n l (block_at s.prefixes p) → ⊥) → IsSilent (metric_at s i p) }
 {}
 
 /// What an interface tells is the metric that it shows, or 16, where it was heard, shows nothing and
@@ -145,7 +170,7 @@ pub fn unheard_silence()
 
 /// A route below 16 of a router with two interfaces is shown: one of them shows its metric.
 pub fn shown_metrics()
-    ensures { (n : Network) (s : State) (r p : ℕ) (route : Route) → IsLawful n →
+    ensures { (n : Network) (s : State) (r p : ℕ) (route : Route) → IsNetwork n →
         HasTwoInterfaces n r → p < length s.prefixes → FitsShown n (told n s) r p route →
         route.metric < 16 →
         (i l c : ℕ) × IsInterface n i r l c × (metric_at s i p ≡ Some route.metric) }
@@ -163,9 +188,9 @@ pub fn tables_without_poison()
 /// ones, as right, by the plan with less poison. So a plan that says less poison keeps `Settled`.
 pub fn less_poison()
     ensures shows { (n m : Network) (s : State) (T : Tables) → IsLawful n → HasLessPoison n m →
-        Shows n (told n s) T → AllRight n (length s.prefixes) T → Shows m (told m s) T }
-    ensures right { (n m : Network) (count : ℕ) (T : Tables) → HasLessPoison n m →
-        AllRight n count T → AllRight m count T }
+        Shows n (told n s) T → AllRight n s.prefixes T → Shows m (told m s) T }
+    ensures right { (n m : Network) (prefixes : List Block) (T : Tables) → HasLessPoison n m →
+        AllRight n prefixes T → AllRight m prefixes T }
     ensures settled { (n m : Network) (s : State) → IsLawful n → HasLessPoison n m →
         ShowsRightTables n (told n s) → ShowsRightTables m (told m s) }
 {}
@@ -179,7 +204,7 @@ pub fn told_offers()
 /// Where `two ways` is the reason why no route can be read, the router shows 16 on two of its
 /// interfaces and a metric below 16 on another.
 pub fn two_ways()
-    ensures { (n : Network) (shown : State) (r p : ℕ) → IsLawful n → IsInRange n shown →
+    ensures { (n : Network) (shown : State) (r p : ℕ) → IsNetwork n → IsInRange n shown →
         r < length n.routers → IsReason n shown r p (TwoWays r p) →
         (IsReadable n shown r p → ⊥) → ShowsTwoWays n shown r p }
 {}

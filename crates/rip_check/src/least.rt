@@ -1,8 +1,9 @@
 //! The least metrics of all routers for a prefix, from the plan alone, or after a failure.
 
 ghost use Rattle.std.specs.Prelude.{◌≡◌, ℕ, ◌<◌, ◌≤◌, ◌⊎◌, Some, false, length, slice_get, slice_index, true};
-ghost use Rattle.rip_plan.specs.Relations.{IsAttached, IsDirect, IsOn};
-ghost use Rattle.rip_check.specs.Failures.{is_link_up, network_left};
+ghost use Rattle.rip_plan.specs.Relations.{Exchanges, IsAttached, IsDirect, IsOn};
+ghost use Rattle.rip_check.specs.Failures.{is_link_up, left_to};
+ghost use Rattle.rip_check.specs.Networks.{block_at, network_at};
 ghost use Rattle.rip_check.specs.Paths.{IsLeast};
 ghost use Rattle.rip_check.specs.Tellings.{AreTold, HasTold, IsTelling, IsTold};
 
@@ -16,10 +17,11 @@ fn fill_direct(plan: &Plan, failure: Option<Failure>, prefix: usize, metrics: &m
     requires { length metrics.old ≡ length plan.now.routers }
     ensures most { (r : ℕ) → slice_index metrics.new r ≤ 16 }
     ensures chosen { (r : ℕ) → r < length metrics.new → (slice_index metrics.new r ≡ 16)
-        ⊎ IsDirect (network_left plan.now failure) r prefix (slice_index metrics.new r) }
-    ensures least { (r c : ℕ) → IsDirect (network_left plan.now failure) r prefix c →
+        ⊎ IsDirect (left_to plan.now failure prefix) r prefix (slice_index metrics.new r) }
+    ensures least { (r c : ℕ) → IsDirect (left_to plan.now failure prefix) r prefix c →
         slice_index metrics.new r ≤ c }
 {
+    plan.lawful();
     for router in 0..metrics.len() {
         metrics[router] = direct_left(plan, failure, router, prefix) as u8;
     }
@@ -37,14 +39,15 @@ fn tell(
 )
     requires link { link < length plan.now.links }
     requires up { is_link_up failure link ≡ true }
+    requires exchanged { Exchanges plan.now link (block_at plan.now.prefixes prefix) }
     requires size { length plan.now.routers ≤ length metrics.old }
     requires metric { metric < 16 }
     requires teller { (s : ℕ) × (slice_index metrics.old s ≡ metric)
-        × IsOn (network_left plan.now failure) s link
-        × (IsAttached (network_left plan.now failure) s prefix link → ⊥) }
-    ensures telling { IsTelling (network_left plan.now failure) prefix metric
+        × IsOn (left_to plan.now failure prefix) s link
+        × (IsAttached (left_to plan.now failure prefix) s prefix link → ⊥) }
+    ensures telling { IsTelling (left_to plan.now failure prefix) prefix metric
         metrics.old metrics.new }
-    ensures told { IsTold (network_left plan.now failure) prefix metric metrics.new link }
+    ensures told { IsTold (left_to plan.now failure prefix) prefix metric metrics.new link }
 {
     plan.lawful();
     let numbers = plan.on_link(link);
@@ -57,8 +60,8 @@ fn tell(
     }
 }
 
-/// A router tells its metric on each of its links where none was told before, but where it has the
-/// prefix attached.
+/// A router tells its metric on each of its links that exchanges the prefix and where none was told
+/// before, but where it has the prefix attached.
 fn tell_on_all(
     plan: &Plan,
     failure: Option<Failure>,
@@ -68,25 +71,31 @@ fn tell_on_all(
     marks: &mut [bool],
 )
     requires router { router < length plan.now.routers }
+    requires prefix { prefix < length plan.now.prefixes }
     requires size { length plan.now.routers ≤ length metrics.old }
     requires marks { length plan.now.links ≤ length marks.old }
     requires metric { slice_index metrics.old router < 16 }
-    ensures telling { IsTelling (network_left plan.now failure) prefix
+    ensures telling { IsTelling (left_to plan.now failure prefix) prefix
         (slice_index metrics.old router) metrics.old metrics.new }
-    ensures told { AreTold (network_left plan.now failure) prefix
+    ensures told { AreTold (left_to plan.now failure prefix) prefix
         (slice_index metrics.old router) metrics.old marks.old →
-        AreTold (network_left plan.now failure) prefix
+        AreTold (left_to plan.now failure prefix) prefix
         (slice_index metrics.old router) metrics.new marks.new }
-    ensures all { HasTold (network_left plan.now failure) prefix marks.new router }
+    ensures all { HasTold (left_to plan.now failure prefix) prefix marks.new router }
     ensures kept { (l : ℕ) → slice_get marks.old l ≡ Some true → slice_get marks.new l ≡ Some true }
 {
     plan.lawful();
     let metric = u32::from(metrics[router]);
     let attached = plan.attached_link(router, prefix);
+    let block = plan.prefix(prefix);
     let numbers = plan.of_router(router);
     for i in numbers {
         let link = plan.interface(*i).link;
-        if !marks[link] && is_alive(failure, router, link) && attached != Some(link) {
+        if !marks[link]
+            && is_alive(failure, router, link)
+            && attached != Some(link)
+            && plan.exchanges(link, block)
+        {
             tell(plan, failure, prefix, link, metric, metrics);
             marks[link] = true;
         }
@@ -102,15 +111,16 @@ fn tell_metric(
     metrics: &mut [u8],
     marks: &mut [bool],
 )
+    requires prefix { prefix < length plan.now.prefixes }
     requires size { length plan.now.routers ≡ length metrics.old }
     requires marks { length plan.now.links ≤ length marks.old }
     requires metric { metric < 16 }
-    ensures telling { IsTelling (network_left plan.now failure) prefix metric
+    ensures telling { IsTelling (left_to plan.now failure prefix) prefix metric
         metrics.old metrics.new }
-    ensures told { AreTold (network_left plan.now failure) prefix metric metrics.old marks.old →
-        AreTold (network_left plan.now failure) prefix metric metrics.new marks.new }
+    ensures told { AreTold (left_to plan.now failure prefix) prefix metric metrics.old marks.old →
+        AreTold (left_to plan.now failure prefix) prefix metric metrics.new marks.new }
     ensures all { (r : ℕ) → r < length plan.now.routers → slice_index metrics.new r ≡ metric →
-        HasTold (network_left plan.now failure) prefix marks.new r }
+        HasTold (left_to plan.now failure prefix) prefix marks.new r }
 {
     plan.lawful();
     for router in 0..metrics.len() {
@@ -138,9 +148,10 @@ fn has_more(metrics: &[u8], metric: u32) -> bool
 /// begins with the metrics at which routers have the prefix themselves. Routers tell their metrics
 /// in ascending order, so that the first that is told on a link is the least one there.
 pub(crate) fn find_least(plan: &Plan, failure: Option<Failure>, prefix: usize, metrics: &mut [u8])
-    requires { length metrics.old ≡ length plan.now.routers }
+    requires prefix { prefix < length plan.now.prefixes }
+    requires size { length metrics.old ≡ length plan.now.routers }
     ensures { (r : ℕ) → r < length plan.now.routers →
-        IsLeast (network_left plan.now failure) prefix r (slice_index metrics.new r) }
+        IsLeast (left_to plan.now failure prefix) prefix r (slice_index metrics.new r) }
 {
     plan.lawful();
     fill_direct(plan, failure, prefix, metrics);
@@ -158,9 +169,12 @@ pub(crate) fn find_least(plan: &Plan, failure: Option<Failure>, prefix: usize, m
 /// allocates nothing; [`Expected`](crate::Expected) has the least metrics of all.
 pub fn least_metric(plan: &Plan, router: usize, prefix: usize) -> Metric
     requires { router < length plan.now.routers }
-    ensures { IsLeast plan.now prefix router result }
+    ensures { IsLeast (network_at plan.now plan.now.prefixes prefix) prefix router result }
 {
     plan.lawful();
+    if prefix >= plan.prefixes() {
+        return metric_of(16);
+    }
     let mut room = [0u8; MOST_ROUTERS];
     let row = &mut room[..plan.routers()];
     find_least(plan, None, prefix, row);

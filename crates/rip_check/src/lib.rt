@@ -25,7 +25,7 @@ mod way;
 mod wrong_places;
 
 pub use aftermath::{Aftermath, Impact, Losses};
-pub use audit::{judge, next_unsettled, unheard_link};
+pub use audit::{judge, next_unsettled};
 pub use case::Case;
 pub use expected::Expected;
 pub use failures::Failure;

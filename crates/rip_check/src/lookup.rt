@@ -2,13 +2,12 @@
 
 ghost use Rattle.std.specs.Prelude.{◌≡◌, ◌||◌, ◌↔◌, ℕ, ◌<◌, ◌≤◌, Decides, IfSome, Some, length, not};
 ghost use Rattle.rip_plan.specs.Relations.{IsAttached};
-ghost use Rattle.rip_check.specs.Cases.{network_of, told_in};
+ghost use Rattle.rip_check.specs.Cases.{network_of, plan_of, told_in};
 ghost use Rattle.rip_check.specs.Metrics.{metric_at};
 ghost use Rattle.rip_check.specs.Tables.{MayHoldBack};
 ghost use Rattle.rip_check.specs.Told.{poisons};
 
 use crate::case::Case;
-use rip_plan::Plan;
 use rip_table::Table;
 use rip_wire::Metric;
 
@@ -23,7 +22,7 @@ pub(crate) fn metric_of(number: u32) -> Metric
 
 /// The metric that an interface shows.
 fn shown_at<T: Table>(case: &Case<'_, T>, interface: usize) -> Option<u32>
-    requires { interface < length (network_of case.now).interfaces }
+    requires { interface < length (plan_of case.now).interfaces }
     ensures metric { result
         ≡ metric_at (T.state case.now.table.now) interface case.now.prefix }
     ensures range { IfSome result (λ m. (1 ≤ m) × (m ≤ 16)) }
@@ -36,8 +35,8 @@ fn shown_at<T: Table>(case: &Case<'_, T>, interface: usize) -> Option<u32>
 
 /// Whether the silence of an interface tells nothing: it poisons, or was not heard.
 fn is_mute<T: Table>(case: &Case<'_, T>, interface: usize) -> bool
-    requires { interface < length (network_of case.now).interfaces }
-    ensures { result ≡ (poisons (network_of case.now) interface
+    requires { interface < length (plan_of case.now).interfaces }
+    ensures { result ≡ (poisons (plan_of case.now) interface
         || not ((T.state case.now.table.now).heard interface)) }
 {
     case.plan.interface(interface).poison || !case.table.heard(interface)
@@ -46,7 +45,7 @@ fn is_mute<T: Table>(case: &Case<'_, T>, interface: usize) -> bool
 /// The metric that an interface tells: what it shows, or 16 where it was heard, shows nothing and
 /// does not poison.
 pub(crate) fn told_at<T: Table>(case: &Case<'_, T>, interface: usize) -> Option<u32>
-    requires { interface < length (network_of case.now).interfaces }
+    requires { interface < length (plan_of case.now).interfaces }
     ensures metric { result ≡ metric_at (told_in case.now) interface case.now.prefix }
     ensures range { IfSome result (λ m. (1 ≤ m) × (m ≤ 16)) }
 {
@@ -64,14 +63,14 @@ pub(crate) fn told_at<T: Table>(case: &Case<'_, T>, interface: usize) -> Option<
 
 /// Whether a router may hold back its own route for a prefix on a link, by the link to which it has
 /// the prefix attached.
-pub(crate) fn may_hold_back(
-    plan: &Plan,
+pub(crate) fn may_hold_back<T: Table>(
+    case: &Case<'_, T>,
     attached: Option<usize>,
     link: usize,
-    prefix: usize,
 ) -> bool
-    ensures { (r : ℕ) → ((l : ℕ) → (attached ≡ Some l) ↔ IsAttached plan.now r prefix l) →
-        Decides result (MayHoldBack plan.now r prefix link) }
+    ensures { (r : ℕ) →
+        ((l : ℕ) → (attached ≡ Some l) ↔ IsAttached (network_of case.now) r case.now.prefix l) →
+        Decides result (MayHoldBack (network_of case.now) r case.now.prefix link) }
 {
-    attached == Some(link) || plan.is_place(link, prefix)
+    attached == Some(link) || case.plan.is_place(link, case.prefix)
 }

@@ -3,7 +3,7 @@
 ghost use Rattle.std.specs.Prelude.{◌≡◌, ◌≢◌, ℕ, ◌+◌, ◌*◌, ◌<◌, IfOk, List, None, Option, length, slice_index_or};
 ghost use Rattle.rip_plan.specs.Network.{Network};
 ghost use Rattle.rip_table.specs.State.{Fits, State};
-ghost use Rattle.rip_check.specs.Cases.{network_of, state_of};
+ghost use Rattle.rip_check.specs.Cases.{plan_of, state_of};
 ghost use Rattle.rip_check.specs.Marks.{AreMarked};
 
 use crate::case::Case;
@@ -22,19 +22,19 @@ pub(crate) trait Marking {
 
     /// The mark of a router and the prefix of a case.
     fn mark<T: Table>(&self, case: &Case<'_, T>, router: usize) -> Option<u8>
-        requires fits { fits self.now (network_of case.now) (state_of case.now) }
-        requires router { router < length (network_of case.now).routers }
-        ensures { is_mark self.now (network_of case.now) (state_of case.now) router
+        requires fits { fits self.now (plan_of case.now) (state_of case.now) }
+        requires router { router < length (plan_of case.now).routers }
+        ensures { is_mark self.now (plan_of case.now) (state_of case.now) router
             case.now.prefix result };
 }
 
 /// Writes the marks of all places of a prefix.
 fn mark_prefix<M: Marking, T: Table>(marking: &M, case: &Case<'_, T>, marks: &mut [Option<u8>])
-    requires fits { M.fits marking.now (network_of case.now) (state_of case.now) }
+    requires fits { M.fits marking.now (plan_of case.now) (state_of case.now) }
     requires size { length marks.old
-        ≡ length (network_of case.now).routers * length (state_of case.now).prefixes }
-    ensures marked { (r : ℕ) → r < length (network_of case.now).routers →
-        M.is_mark marking.now (network_of case.now) (state_of case.now) r case.now.prefix
+        ≡ length (plan_of case.now).routers * length (state_of case.now).prefixes }
+    ensures marked { (r : ℕ) → r < length (plan_of case.now).routers →
+        M.is_mark marking.now (plan_of case.now) (state_of case.now) r case.now.prefix
         (slice_index_or marks.new
         (r * length (state_of case.now).prefixes + case.now.prefix) None) }
     ensures others { (r q : ℕ) → q < length (state_of case.now).prefixes → q ≢ case.now.prefix →
@@ -79,9 +79,9 @@ pub(crate) fn mark_at<T: Table>(
     marks: &[Option<u8>],
     router: usize,
 ) -> Option<u8>
-    requires router { router < length (network_of case.now).routers }
+    requires router { router < length (plan_of case.now).routers }
     requires size { length marks.now
-        ≡ length (network_of case.now).routers * length (state_of case.now).prefixes }
+        ≡ length (plan_of case.now).routers * length (state_of case.now).prefixes }
     ensures { result ≡ slice_index_or marks.now
         (router * length (state_of case.now).prefixes + case.now.prefix) None }
 {

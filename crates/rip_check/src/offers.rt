@@ -4,7 +4,8 @@ ghost use Rattle.std.specs.Prelude.{◌≡◌, ◌≢◌, ℕ, ◌+◌, ◌<◌,
 ghost use Rattle.rip_plan.specs.Network.{Network};
 ghost use Rattle.rip_plan.specs.Relations.{HasCost, IsDirect, IsInterface, IsKept};
 ghost use Rattle.rip_table.specs.State.{Fits};
-ghost use Rattle.rip_check.specs.Cases.{At, network_of, told_in};
+ghost use Rattle.rip_check.specs.Cases.{At, network_of, plan_of, told_in};
+ghost use Rattle.rip_check.specs.Networks.{network_at};
 ghost use Rattle.rip_check.specs.Settled.{IsChoice};
 ghost use Rattle.rip_check.specs.Tables.{Offers};
 ghost use Rattle.rip_check.specs.TwoLeasts.{IsSeen, IsTwoLeast};
@@ -16,24 +17,27 @@ use rip_plan::{Interface, Plan};
 use rip_table::Table;
 use rip_wire::Metric;
 
-/// The least of `best` and of what the neighbours over the link of an interface offer, by asking
-/// each.
-fn least_asked<T: Table>(case: &Case<'_, T>, own: Interface, best: u32) -> u32
-    requires own { HasCost (network_of case.now) own.router own.link own.cost }
+/// The least of `best` and of what the neighbours over a link offer a router, whose interface there
+/// has this cost, by asking each. Over a link that does not exchange the prefix nothing is offered.
+fn least_asked<T: Table>(case: &Case<'_, T>, router: usize, link: usize, cost: u8, best: u32) -> u32
+    requires own { HasCost (plan_of case.now) router link cost }
     requires best { best ≤ 16 }
     ensures at_most { result ≤ best }
     ensures least { (s v : ℕ) → Offers (network_of case.now) (told_in case.now)
-        own.router own.link s case.now.prefix v → result ≤ v }
+        router link s case.now.prefix v → result ≤ v }
     ensures chosen { (result ≡ best) ⊎ ((s : ℕ) × Offers (network_of case.now)
-        (told_in case.now) own.router own.link s case.now.prefix result) }
+        (told_in case.now) router link s case.now.prefix result) }
 {
-    case.plan.lawful();
+    case.lawful();
     let mut least = best;
-    let numbers = case.plan.on_link(own.link);
+    if !case.exchanges(link) {
+        return least;
+    }
+    let numbers = case.plan.on_link(link);
     for j in numbers {
         let across = case.plan.interface(*j);
-        if across.router != own.router {
-            least = (u32::from(own.cost) + seen_at(case, *j)).min(least);
+        if across.router != router {
+            least = (u32::from(cost) + seen_at(case, *j)).min(least);
         }
     }
     least
@@ -46,6 +50,7 @@ pub(crate) fn least_told(own: Interface, two: TwoLeast, best: u32) -> u32
     requires least { two.least ≤ 16 }
     requires next { two.next ≤ 16 }
     ensures at_most { result ≤ best }
+    ensures nothing { two.least ≡ 16 → two.next ≡ 16 → result ≡ best }
     ensures least { (n : Network) (seen : ℕ → ℕ → ℕ → ℕ) (j s v : ℕ) →
         IsTwoLeast n seen own.link (length n.interfaces) two → IsSeen n seen own.link j s v →
         s ≢ own.router → result ≤ own.cost + v }
@@ -65,8 +70,9 @@ pub(crate) fn least_told(own: Interface, two: TwoLeast, best: u32) -> u32
 /// The least of `best` and of what the neighbours over the link of an interface offer: by the two
 /// least metrics that are told on each link, where they are known, or else by asking each
 /// neighbour.
+#[inline(always)]
 pub(crate) fn best_over<T: Table>(case: &Case<'_, T>, own: Interface, best: u32) -> u32
-    requires own { HasCost (network_of case.now) own.router own.link own.cost }
+    requires own { HasCost (plan_of case.now) own.router own.link own.cost }
     requires best { best ≤ 16 }
     ensures at_most { result ≤ best }
     ensures least { (s v : ℕ) → Offers (network_of case.now) (told_in case.now)
@@ -74,13 +80,13 @@ pub(crate) fn best_over<T: Table>(case: &Case<'_, T>, own: Interface, best: u32)
     ensures chosen { (result ≡ best) ⊎ ((s : ℕ) × Offers (network_of case.now)
         (told_in case.now) own.router own.link s case.now.prefix result) }
 {
-    case.plan.lawful();
+    case.lawful();
     match case.links {
         Some(links) => {
             let two = links[own.link];
             least_told(own, two, best)
         }
-        None => least_asked(case, own, best),
+        None => least_asked(case, own.router, own.link, own.cost, best),
     }
 }
 
@@ -106,6 +112,7 @@ pub(crate) fn least_choice<T: Table>(case: &Case<'_, T>, router: usize, keeps: b
     ensures chosen { At case.now IsChoice router result }
     ensures least { (v : ℕ) → At case.now IsChoice router v → result ≤ v }
 {
+    case.lawful();
     let mut best = direct_or_16(case.plan, router, case.prefix);
     if keeps {
         return best;
@@ -149,10 +156,15 @@ pub fn offer<T: Table>(
 ) -> Metric
     requires fits { Fits plan.now (T.state table.now) }
     requires prefix { prefix < length (T.state table.now).prefixes }
-    requires own { HasCost plan.now own.router own.link own.cost }
-    requires across { (s c : ℕ) × IsInterface plan.now across s own.link c × (s ≢ own.router) }
-    ensures { (s c : ℕ) → IsInterface plan.now across s own.link c →
-        Offers plan.now (T.state table.now) own.router own.link s prefix result }
+    requires own { HasCost (network_at plan.now (T.state table.now).prefixes prefix)
+        own.router own.link own.cost }
+    requires across { (s c : ℕ)
+        × IsInterface (network_at plan.now (T.state table.now).prefixes prefix) across s own.link c
+        × (s ≢ own.router) }
+    ensures { (s c : ℕ) →
+        IsInterface (network_at plan.now (T.state table.now).prefixes prefix) across s own.link c →
+        Offers (network_at plan.now (T.state table.now).prefixes prefix) (T.state table.now)
+        own.router own.link s prefix result }
 {
     Case::new(plan, table, prefix).offer(own, across)
 }

@@ -1,14 +1,14 @@
 //! The verdict on the routers' own tables.
 
-ghost use Rattle.std.specs.Prelude.{◌≡◌, ◌≢◌, ◌↔◌, ℕ, ◌+◌, ◌≤◌, ◌<◌, Decides, IfNone, Contains, IfSome, None, Some, length, slice_get, true};
-ghost use Rattle.rip_plan.specs.Relations.{HasCost, IsDirect, IsKept};
+ghost use Rattle.std.specs.Prelude.{◌≡◌, ◌↔◌, ℕ, ◌+◌, ◌≤◌, ◌<◌, Decides, IfNone, Contains, IfSome, None, Some, length, true};
+ghost use Rattle.rip_plan.specs.Relations.{HasCost, IsKept};
 ghost use Rattle.rip_table.specs.State.{Fits};
-ghost use Rattle.rip_routes.specs.OwnTables.{FitsOwn, route_at};
-ghost use Rattle.rip_check.specs.Cases.{At, network_of, state_of, told_in};
+ghost use Rattle.rip_routes.specs.OwnTables.{route_at};
+ghost use Rattle.rip_check.specs.Cases.{At, ByPlan, network_of, plan_of, state_of, told_in};
 ghost use Rattle.rip_check.specs.Firsts.{IsFirstAt, IsFirstOf};
 ghost use Rattle.rip_check.specs.OwnSettled.{AreRightTables, EachOwnHolds, IsHopGiven, OwnHolds};
 ghost use Rattle.rip_check.specs.OwnTells.{HasHop, IsToldBy};
-ghost use Rattle.rip_check.specs.OwnVerdicts.{IsFirstHad, IsFirstWrongHop, IsNextUnlisted, IsNextWrong, IsOwnFailing, IsOwnSound, IsOwnVerdict, IsWrong, IsWrongHop};
+ghost use Rattle.rip_check.specs.OwnVerdicts.{IsFirstHad, IsFirstWrongHop, IsNextUnlisted, IsOwnFailing, IsOwnSound, IsOwnVerdict, IsWrong, IsWrongHop};
 ghost use Rattle.rip_check.specs.OwnWalks.{OwnPacketsArrive};
 ghost use Rattle.rip_check.specs.Settled.{IsChoice, IsLeastChoice};
 ghost use Rattle.rip_check.specs.Tables.{Offers};
@@ -74,13 +74,14 @@ fn is_offered_across<T: Table>(
     address: Address,
     metric: u32,
 ) -> bool
-    requires { HasCost (network_of case.now) own.router own.link own.cost }
+    requires router { own.router < length (network_of case.now).routers }
+    requires own { HasCost (network_of case.now) own.router own.link own.cost }
     ensures { Decides result ((s : ℕ)
         × HasHop (network_of case.now) own.router own.link s case.now.prefix address
         × Offers (network_of case.now) (told_in case.now) own.router own.link s case.now.prefix
         metric) }
 {
-    case.plan.lawful();
+    case.lawful();
     let numbers = case.plan.on_link(own.link);
     for j in numbers {
         let across = case.plan.interface(*j);
@@ -101,10 +102,11 @@ fn is_offered_by<T: Table>(case: &Case<'_, T>, router: usize, address: Address, 
         × HasHop (network_of case.now) router l s case.now.prefix address
         × Offers (network_of case.now) (told_in case.now) router l s case.now.prefix metric) }
 {
+    case.lawful();
     let numbers = case.plan.of_router(router);
     for i in numbers {
         let own = case.plan.interface(*i);
-        if is_offered_across(case, own, address, metric) {
+        if case.exchanges(own.link) && is_offered_across(case, own, address, metric) {
             return true;
         }
     }
@@ -149,7 +151,7 @@ fn first_wrong_hop<T: Table, G: RouteTables>(
     requires keeps { Decides keeps (IsKept (network_of case.now) router case.now.prefix) }
     requires metric { metric ≡ (route_at (G.tables tables.now) router case.now.prefix).metric }
     requires least { (v : ℕ) → At case.now IsChoice router v → metric ≤ v }
-    ensures some { IfSome result (At case.now IsFirstWrongHop router
+    ensures some { IfSome result (ByPlan case.now IsFirstWrongHop router
         (route_at (G.tables tables.now) router case.now.prefix)) }
     ensures none { IfNone result ((h : NextHop) →
         Contains (route_at (G.tables tables.now) router case.now.prefix).hops h →
@@ -176,12 +178,12 @@ pub(crate) fn wrong_by<T: Table, G: RouteTables>(
     requires prefix { case.now.prefix < length (G.tables tables.now).prefixes }
     requires keeps { Decides keeps (IsKept (network_of case.now) router case.now.prefix) }
     requires equation { At case.now IsLeastChoice router equation }
-    ensures some { IfSome result (At case.now IsWrong router
+    ensures some { IfSome result (ByPlan case.now IsWrong router
         (route_at (G.tables tables.now) router case.now.prefix)) }
     ensures none { IfNone result (At case.now OwnHolds router
         (route_at (G.tables tables.now) router case.now.prefix)) }
 {
-    case.plan.lawful();
+    case.lawful();
     let metric = tables.metric(router, case.prefix).get();
     if metric != equation {
         return Some(Wrong::Metric(metric_of(equation)));
@@ -200,12 +202,13 @@ fn wrong_at<T: Table, G: RouteTables>(
 ) -> Option<Wrong>
     requires router { router < length (network_of case.now).routers }
     requires prefix { case.now.prefix < length (G.tables tables.now).prefixes }
-    ensures some { IfSome result (At case.now IsWrong router
+    ensures some { IfSome result (ByPlan case.now IsWrong router
         (route_at (G.tables tables.now) router case.now.prefix)) }
     ensures none { IfNone result (At case.now OwnHolds router
         (route_at (G.tables tables.now) router case.now.prefix)) }
 {
-    let keeps = case.plan.keeps(router, case.prefix);
+    case.lawful();
+    let keeps = case.keeps(router);
     let equation = least_choice(case, router, keeps);
     wrong_by(case, tables, router, keeps, equation)
 }
@@ -240,11 +243,12 @@ fn with_prefix<T: Table, G: RouteTables>(
     tables: &G,
     found: WrongPlace,
 ) -> WrongPlace
+    requires prefixes { (state_of case.now).prefixes ≡ (G.tables tables.now).prefixes }
     requires prefix { case.now.prefix < length (G.tables tables.now).prefixes }
-    requires found { IsFirstAt (network_of case.now) case.now.prefix
-        (IsOwnSound (network_of case.now) (told_in case.now) (G.tables tables.now)) found }
-    ensures { IsFirstAt (network_of case.now) (case.now.prefix + 1)
-        (IsOwnSound (network_of case.now) (told_in case.now) (G.tables tables.now)) result }
+    requires found { IsFirstAt (plan_of case.now) case.now.prefix
+        (IsOwnSound (plan_of case.now) (told_in case.now) (G.tables tables.now)) found }
+    ensures { IsFirstAt (plan_of case.now) (case.now.prefix + 1)
+        (IsOwnSound (plan_of case.now) (told_in case.now) (G.tables tables.now)) result }
 {
     case.plan.lawful();
     let below = match found {
@@ -298,17 +302,17 @@ pub(crate) fn own_place<T: Table, G: RouteTables>(
     router: usize,
     wrong: Option<Wrong>,
 ) -> Option<OwnPlace>
-    requires told { IsToldBy (network_of case.now) (G.tables tables.now) (state_of case.now) }
+    requires told { IsToldBy (plan_of case.now) (G.tables tables.now) (state_of case.now) }
     requires router { router < length (network_of case.now).routers }
-    requires some { IfSome wrong (At case.now IsWrong router
+    requires some { IfSome wrong (ByPlan case.now IsWrong router
         (route_at (G.tables tables.now) router case.now.prefix)) }
     requires none { IfNone wrong (At case.now OwnHolds router
         (route_at (G.tables tables.now) router case.now.prefix)) }
     ensures some { IfSome result (λ place. (place.router ≡ router)
         × (place.prefix ≡ case.now.prefix)
-        × IsOwnFailing (network_of case.now) (state_of case.now) (G.tables tables.now) place) }
+        × IsOwnFailing (plan_of case.now) (state_of case.now) (G.tables tables.now) place) }
     ensures none { IfNone result
-        (IsOwnSound (network_of case.now) (state_of case.now) (G.tables tables.now) router
+        (IsOwnSound (plan_of case.now) (state_of case.now) (G.tables tables.now) router
         case.now.prefix) }
 {
     match wrong {
@@ -326,13 +330,13 @@ impl<T: Table> Case<'_, T> {
     /// The place of a router in the routers' own tables, and what is wrong there, if it does not
     /// hold. The table of the case is that of what the routers tell.
     pub fn wrong<G: RouteTables>(&self, tables: &G, router: usize) -> Option<OwnPlace>
-        requires told { IsToldBy (network_of self.now) (G.tables tables.now) (state_of self.now) }
+        requires told { IsToldBy (plan_of self.now) (G.tables tables.now) (state_of self.now) }
         requires router { router < length (network_of self.now).routers }
         ensures some { IfSome result (λ place. (place.router ≡ router)
             × (place.prefix ≡ self.now.prefix)
-            × IsOwnFailing (network_of self.now) (state_of self.now) (G.tables tables.now) place) }
+            × IsOwnFailing (plan_of self.now) (state_of self.now) (G.tables tables.now) place) }
         ensures none { IfNone result
-            (IsOwnSound (network_of self.now) (state_of self.now) (G.tables tables.now) router
+            (IsOwnSound (plan_of self.now) (state_of self.now) (G.tables tables.now) router
             self.now.prefix) }
     {
         let wrong = wrong_at(self, tables, router);

@@ -3,11 +3,12 @@
 ghost use Rattle.std.specs.Prelude.{◌≡◌, ℕ, ◌<◌, ◌≤◌, ◌⊎◌, ◌↔◌, Decides, IfErr, IfNone, IfOk, IfSome, IsTrue, is_ok, length};
 ghost use Rattle.rip_plan.specs.Relations.{IsDirect, IsKept};
 ghost use Rattle.rip_table.specs.State.{Fits};
-ghost use Rattle.rip_check.specs.Cases.{At, network_of, told_in};
+ghost use Rattle.rip_check.specs.Cases.{At, ByPlan, network_of, plan_of, told_in};
+ghost use Rattle.rip_check.specs.Networks.{network_at};
 ghost use Rattle.rip_check.specs.Settled.{Holds, IsChoice, IsGiven, IsLeastChoice};
-ghost use Rattle.rip_check.specs.Tables.{IsOnlyRoute, FitsShown, FitsWay, Offers};
+ghost use Rattle.rip_check.specs.Tables.{IsOnlyRoute, FitsShown, FitsThere, FitsWay, Offers};
 ghost use Rattle.rip_check.specs.Verdicts.{IsFailing, IsSound, route_of, IsHidden};
-ghost use Rattle.rip_check.specs.Firsts.{IsReadable, IsReason};
+ghost use Rattle.rip_check.specs.Firsts.{CanBeRead, IsCause};
 ghost use Rattle.rip_check.specs.Told.{told};
 
 use crate::case::Case;
@@ -45,6 +46,7 @@ pub(crate) fn is_offered<T: Table>(
     ensures { Decides result ((s : ℕ) × Offers (network_of case.now) (told_in case.now)
         router link s case.now.prefix metric) }
 {
+    case.lawful();
     match case.plan.interface_on(router, link) {
         Some(own) => best_over(case, own, 16) == metric,
         None => false,
@@ -59,6 +61,7 @@ fn is_given<T: Table>(case: &Case<'_, T>, router: usize, keeps: bool, route: Rea
     requires least { (v : ℕ) → At case.now IsChoice router v → route.metric ≤ v }
     ensures { Decides result (At case.now IsGiven router route.metric route.way) }
 {
+    case.lawful();
     match route.way {
         Way::Unreachable => true,
         Way::Here => is_direct(case.plan, router, case.prefix, route.metric),
@@ -79,8 +82,8 @@ pub(crate) fn failing_equation<T: Table>(
     ensures equation { IfSome result (λ v. (1 ≤ v) × (v ≤ 16)
         × At case.now IsLeastChoice router v) }
 {
-    case.plan.lawful();
-    let keeps = case.plan.keeps(router, case.prefix);
+    case.lawful();
+    let keeps = case.keeps(router);
     let equation = least_choice(case, router, keeps);
     if route.metric == equation && is_given(case, router, keeps, route) {
         return None;
@@ -116,10 +119,10 @@ impl<T: Table> Case<'_, T> {
     pub fn failing(&self, router: usize) -> Option<Place2>
         requires { router < length (network_of self.now).routers }
         ensures some { IfSome result (λ f. (f.router ≡ router) × (f.prefix ≡ self.now.prefix)
-            × IsFailing (network_of self.now) (told_in self.now) f) }
-        ensures none { IfNone result (At self.now IsSound router) }
+            × IsFailing (plan_of self.now) (told_in self.now) f) }
+        ensures none { IfNone result (ByPlan self.now IsSound router) }
     {
-        self.plan.lawful();
+        self.lawful();
         let Some(route) = read(self, router) else {
             return None;
         };
@@ -133,15 +136,15 @@ impl<T: Table> Case<'_, T> {
     /// routes may fit what is shown; the answer is then the defined one.
     pub fn route(&self, router: usize) -> Result<Route, Unclear>
         requires { router < length (network_of self.now).routers }
-        ensures exact { IsTrue (is_ok result) ↔ At self.now IsReadable router }
-        ensures fits { IfOk result (λ t. At self.now FitsShown router
+        ensures exact { IsTrue (is_ok result) ↔ ByPlan self.now CanBeRead router }
+        ensures fits { IfOk result (λ t. ByPlan self.now FitsThere router
             (record { metric = t.metric; way = t.way })) }
         ensures one { IfOk result (λ t. IsTrue t.hidden ⊎ At self.now IsOnlyRoute router
             (record { metric = t.metric; way = t.way })) }
         ensures hidden { IfOk result (λ t. Decides t.hidden (At self.now IsHidden router)) }
-        ensures unclear { IfErr result (At self.now IsReason router) }
+        ensures unclear { IfErr result (ByPlan self.now IsCause router) }
     {
-        self.plan.lawful();
+        self.lawful();
         match read(self, router) {
             None => Err(reason(self, router)),
             Some(route) => Ok(Route {
@@ -158,8 +161,8 @@ impl<T: Table> Case<'_, T> {
         requires { router < length (network_of self.now).routers }
         ensures { At self.now IsLeastChoice router result }
     {
-        self.plan.lawful();
-        let keeps = self.plan.keeps(router, self.prefix);
+        self.lawful();
+        let keeps = self.keeps(router);
         metric_of(least_choice(self, router, keeps))
     }
 }
@@ -177,17 +180,19 @@ pub fn route<T: Table>(
     requires router { router < length plan.now.routers }
     requires prefix { prefix < length (T.state table.now).prefixes }
     ensures exact { IsTrue (is_ok result)
-        ↔ IsReadable plan.now (told plan.now (T.state table.now)) router prefix }
+        ↔ CanBeRead plan.now (told plan.now (T.state table.now)) router prefix }
     ensures fits { IfOk result (λ t.
-        FitsShown plan.now (told plan.now (T.state table.now)) router prefix
+        FitsThere plan.now (told plan.now (T.state table.now)) router prefix
         (record { metric = t.metric; way = t.way })) }
     ensures one { IfOk result (λ t. IsTrue t.hidden
-        ⊎ IsOnlyRoute plan.now (told plan.now (T.state table.now)) router prefix
+        ⊎ IsOnlyRoute (network_at plan.now (T.state table.now).prefixes prefix)
+        (told plan.now (T.state table.now)) router prefix
         (record { metric = t.metric; way = t.way })) }
     ensures hidden { IfOk result (λ t. Decides t.hidden
-        (IsHidden plan.now (told plan.now (T.state table.now)) router prefix)) }
+        (IsHidden (network_at plan.now (T.state table.now).prefixes prefix)
+        (told plan.now (T.state table.now)) router prefix)) }
     ensures unclear { IfErr result (λ trouble.
-        IsReason plan.now (told plan.now (T.state table.now)) router prefix trouble) }
+        IsCause plan.now (told plan.now (T.state table.now)) router prefix trouble) }
 {
     Case::new(plan, table, prefix).route(router)
 }
@@ -198,7 +203,8 @@ pub fn equation<T: Table>(plan: &Plan, table: &T, router: usize, prefix: usize) 
     requires fits { Fits plan.now (T.state table.now) }
     requires router { router < length plan.now.routers }
     requires prefix { prefix < length (T.state table.now).prefixes }
-    ensures { IsLeastChoice plan.now (told plan.now (T.state table.now)) router prefix result }
+    ensures { IsLeastChoice (network_at plan.now (T.state table.now).prefixes prefix)
+        (told plan.now (T.state table.now)) router prefix result }
 {
     Case::new(plan, table, prefix).equation(router)
 }

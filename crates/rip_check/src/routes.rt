@@ -2,16 +2,16 @@
 
 ghost use Rattle.std.specs.Prelude.{◌≡◌, ◌≢◌, ℕ, ◌<◌, ◌≤◌, ◌⊎◌, IfNone, IfSome, None, Some, length};
 ghost use Rattle.rip_plan.specs.Relations.{HasTwoInterfaces, IsLeaf};
-ghost use Rattle.rip_check.specs.Cases.{At, network_of, told_in};
-ghost use Rattle.rip_check.specs.Firsts.{IsFirstGap, IsReadable, IsReason, ShowsEach};
+ghost use Rattle.rip_check.specs.Cases.{At, network_of, plan_of, told_in};
+ghost use Rattle.rip_check.specs.Firsts.{CanBeRead, IsCause, IsFirstGap, IsReadable, IsReason, ShowsEach};
 ghost use Rattle.rip_check.specs.Metrics.{metric_at};
-ghost use Rattle.rip_check.specs.Tables.{IsSilent};
+ghost use Rattle.rip_check.specs.Tables.{IsOff, IsQuiet, IsSilent};
 ghost use Rattle.rip_check.specs.Verdicts.{IsRead};
 
 use crate::case::Case;
 use crate::lookup::{may_hold_back, told_at};
 use crate::offers::{best_over, direct_or_16};
-use crate::surveys::survey_of;
+use crate::surveys::{reach_of, survey_of};
 use crate::verdict::Unclear;
 use crate::way::Way;
 use rip_plan::Interface;
@@ -34,13 +34,14 @@ const UNREACHABLE: ReadRoute = ReadRoute {
 
 /// The one metric and way that can be behind what a router with two interfaces shows, if there is
 /// one.
+#[inline(always)]
 fn read_route<T: Table>(case: &Case<'_, T>, router: usize) -> Option<ReadRoute>
     requires router { router < length (network_of case.now).routers }
     requires two { HasTwoInterfaces (network_of case.now) router }
     ensures some { IfSome result (At case.now IsRead router) }
     ensures none { IfNone result (At case.now IsReadable router → ⊥) }
 {
-    case.plan.lawful();
+    case.lawful();
     let found = survey_of(case, router);
     if found.another {
         return None;
@@ -69,29 +70,29 @@ fn read_route<T: Table>(case: &Case<'_, T>, router: usize) -> Option<ReadRoute>
     })
 }
 
-/// The link of a router's first interface that tells nothing.
+/// The link of a router's first interface that tells nothing where the prefix is exchanged.
 fn first_gap<T: Table>(case: &Case<'_, T>, router: usize) -> Option<usize>
     requires { router < length (network_of case.now).routers }
     ensures some { IfSome result (At case.now IsFirstGap router) }
     ensures none { IfNone result (At case.now ShowsEach router) }
 {
+    case.lawful();
     let numbers = case.plan.of_router(router);
     for i in numbers {
         let own = case.plan.interface(*i);
-        match told_at(case, *i) {
-            None => return Some(own.link),
-            Some(_) => {}
+        if case.exchanges(own.link) && told_at(case, *i).is_none() {
+            return Some(own.link);
         }
     }
     None
 }
 
-/// Why no route of a router can be read.
-pub(crate) fn reason<T: Table>(case: &Case<'_, T>, router: usize) -> Unclear
+/// Why no route can be read of what a router tells where the prefix is exchanged.
+fn reason_there<T: Table>(case: &Case<'_, T>, router: usize) -> Unclear
     requires { router < length (network_of case.now).routers }
     ensures { At case.now IsReason router result }
 {
-    case.plan.lawful();
+    case.lawful();
     let prefix = case.prefix;
     let found = survey_of(case, router);
     if found.another {
@@ -104,7 +105,7 @@ pub(crate) fn reason<T: Table>(case: &Case<'_, T>, router: usize) -> Unclear
             link,
         };
     }
-    match case.plan.attached_link(router, prefix) {
+    match case.attached_link(router) {
         Some(link) if found.not_here && found.silent.is_none() => Unclear::ShownOn {
             router,
             prefix,
@@ -114,16 +115,33 @@ pub(crate) fn reason<T: Table>(case: &Case<'_, T>, router: usize) -> Unclear
     }
 }
 
+/// Why no route of a router can be read: it tells the prefix where that is not exchanged, or what
+/// it tells elsewhere does not say which.
+pub(crate) fn reason<T: Table>(case: &Case<'_, T>, router: usize) -> Unclear
+    requires { router < length (network_of case.now).routers }
+    ensures { IsCause (plan_of case.now) (told_in case.now) router case.now.prefix result }
+{
+    match reach_of(case, router).loud {
+        Some(link) => Unclear::ShownOn {
+            router,
+            prefix: case.prefix,
+            link,
+        },
+        None => reason_there(case, router),
+    }
+}
+
 /// The route of a router with one interface that tells nothing or 16 there. It may not be shown.
 fn silent_leaf<T: Table>(case: &Case<'_, T>, own: Interface, told: Option<u32>) -> ReadRoute
+    requires router { own.router < length (network_of case.now).routers }
     requires leaf { (i : ℕ) × IsLeaf (network_of case.now) own.router i own.link own.cost
         × (told ≡ metric_at (told_in case.now) i case.now.prefix) }
     requires silent { IsSilent told }
     ensures { At case.now IsRead own.router result }
 {
-    case.plan.lawful();
-    let attached = case.plan.attached_link(own.router, case.prefix);
-    if may_hold_back(case.plan, attached, own.link, case.prefix) {
+    case.lawful();
+    let attached = case.attached_link(own.router);
+    if may_hold_back(case, attached, own.link) {
         return ReadRoute {
             metric: direct_or_16(case.plan, own.router, case.prefix),
             way: Way::Here,
@@ -147,20 +165,20 @@ fn silent_leaf<T: Table>(case: &Case<'_, T>, own: Interface, told: Option<u32>) 
     }
 }
 
-/// The route of a router with one interface, if one can be read: there is none where it shows a
-/// metric below 16 on the link to which the prefix is attached.
-fn leaf_route<T: Table>(case: &Case<'_, T>, router: usize) -> Option<ReadRoute>
+/// The route of a router with one interface, which has this number, if one can be read: there is none
+/// where it shows a metric below 16 on the link to which the prefix is attached.
+fn leaf_route<T: Table>(case: &Case<'_, T>, router: usize, only: usize) -> Option<ReadRoute>
     requires router { router < length (network_of case.now).routers }
-    requires leaf { (i l c : ℕ) × IsLeaf (network_of case.now) router i l c }
+    requires leaf { (l c : ℕ) × IsLeaf (network_of case.now) router only l c }
     ensures some { IfSome result (At case.now IsRead router) }
     ensures none { IfNone result (At case.now IsReadable router → ⊥) }
 {
-    let i = case.plan.of_router(router)[0];
-    let own = case.plan.interface(i);
-    let told = told_at(case, i);
+    case.lawful();
+    let own = case.plan.interface(only);
+    let told = told_at(case, only);
     match told {
         Some(metric) if metric < 16 => {
-            if case.plan.attached_link(router, case.prefix) == Some(own.link) {
+            if case.attached_link(router) == Some(own.link) {
                 return None;
             }
             Some(ReadRoute {
@@ -173,15 +191,70 @@ fn leaf_route<T: Table>(case: &Case<'_, T>, router: usize) -> Option<ReadRoute>
     }
 }
 
+/// The route of a router that is on no link that exchanges the prefix: its own, or none.
+fn lone_route<T: Table>(case: &Case<'_, T>, router: usize) -> ReadRoute
+    requires router { router < length (network_of case.now).routers }
+    requires off { IsOff (network_of case.now) router }
+    ensures { At case.now IsRead router result }
+{
+    case.lawful();
+    match case.plan.direct_cost(router, case.prefix) {
+        Some(cost) => ReadRoute {
+            metric: u32::from(cost),
+            way: Way::Here,
+            hidden: true,
+        },
+        None => ReadRoute {
+            metric: 16,
+            way: Way::Unreachable,
+            hidden: true,
+        },
+    }
+}
+
+/// The route of a router, if one can be read, in a plan in which some link may have a list: there is
+/// none where it shows the prefix on a link that does not exchange it.
+fn read_by_lists<T: Table>(case: &Case<'_, T>, router: usize) -> Option<ReadRoute>
+    requires { router < length (network_of case.now).routers }
+    ensures some { IfSome result (At case.now IsRead router) }
+    ensures quiet { IfSome result (λ _.
+        IsQuiet (plan_of case.now) (told_in case.now) router case.now.prefix) }
+    ensures none { IfNone result
+        (CanBeRead (plan_of case.now) (told_in case.now) router case.now.prefix → ⊥) }
+{
+    case.lawful();
+    let reach = reach_of(case, router);
+    if reach.loud.is_some() {
+        return None;
+    }
+    match reach.first {
+        None => Some(lone_route(case, router)),
+        Some(only) => {
+            if reach.more {
+                read_route(case, router)
+            } else {
+                leaf_route(case, router, only)
+            }
+        }
+    }
+}
+
 /// The route of a router, if one can be read.
 pub(crate) fn read<T: Table>(case: &Case<'_, T>, router: usize) -> Option<ReadRoute>
     requires { router < length (network_of case.now).routers }
     ensures some { IfSome result (At case.now IsRead router) }
-    ensures none { IfNone result (At case.now IsReadable router → ⊥) }
+    ensures quiet { IfSome result (λ _.
+        IsQuiet (plan_of case.now) (told_in case.now) router case.now.prefix) }
+    ensures none { IfNone result
+        (CanBeRead (plan_of case.now) (told_in case.now) router case.now.prefix → ⊥) }
 {
-    case.plan.lawful();
+    case.lawful();
+    if case.plan.has_lists() {
+        return read_by_lists(case, router);
+    }
     if case.plan.leaf(router) {
-        return leaf_route(case, router);
+        let only = case.plan.of_router(router)[0];
+        return leaf_route(case, router, only);
     }
     read_route(case, router)
 }

@@ -1,12 +1,13 @@
 //! What routers tell their neighbours, by their own tables.
 
-ghost use Rattle.std.specs.Prelude.{◌≡◌, ◌≢◌, ℕ, ◌<◌, ◌≤◌, ◌⊎◌, ◌↔◌, ◌+◌, ◌∷◌, Decides, IfNone, IfOk, IfSome, List, None, Some, if◌then◌else◌, length, map, slice_get, slice_index, slice_index_or, false, true};
-ghost use Rattle.rip_wire.specs.Prefix.{Block};
-ghost use Rattle.rip_plan.specs.Relations.{HasCost, IsAttached, IsGateway, IsInterface, IsOn};
+ghost use Rattle.std.specs.Prelude.{◌≡◌, ◌≢◌, ℕ, ◌<◌, ◌≤◌, ◌⊎◌, ◌↔◌, ◌+◌, Decides, IfNone, IfOk, IfSome, List, None, Some, if◌then◌else◌, length, slice_get, slice_index, slice_index_or, false, true};
+ghost use Rattle.rip_plan.specs.Relations.{Exchanges, HasCost, IsGateway, IsInterface};
+ghost use Rattle.rip_plan.specs.PrefixNetworks.{network_for};
 ghost use Rattle.rip_table.specs.State.{Fits, IsState};
-ghost use Rattle.rip_routes.specs.OwnTables.{FitsOwn, route_at};
-ghost use Rattle.rip_check.specs.OwnTells.{HasHopAt, IsHadOn, IsMute, IsOver, IsToldBy, SendsOver};
-ghost use Rattle.rip_check.specs.ToldCells.{AreMarks, AreToldRows, IsFirstAcross, IsHereOn, IsRowBelow, IsToldRow, rows_of, told_state};
+ghost use Rattle.rip_routes.specs.OwnTables.{FitsOwn};
+ghost use Rattle.rip_check.specs.Networks.{network_at};
+ghost use Rattle.rip_check.specs.OwnTells.{HasHopAt, IsHadOn, IsOver, IsToldBy, SendsOver};
+ghost use Rattle.rip_check.specs.ToldCells.{AreMarks, IsFirstAcross, IsHereOn, IsRowBelow, IsToldRow, rows_of, told_state};
 
 use crate::lookup::metric_of;
 use rip_plan::{Interface, MOST_LINKS, Plan};
@@ -78,12 +79,18 @@ fn is_had_over(plan: &Plan, own: Interface, address: Address, prefix: usize) -> 
     }
 }
 
-/// The one link on which neighbours have an address for a prefix.
-fn only_link_with(plan: &Plan, router: usize, address: Address, prefix: usize) -> Option<usize>
+/// The one link on which neighbours have an address for a prefix, of those that exchange it.
+fn only_link_with(
+    plan: &Plan,
+    router: usize,
+    address: Address,
+    prefix: usize,
+    block: Prefix,
+) -> Option<usize>
     requires { router < length plan.now.routers }
     ensures { (l : ℕ) → (result ≡ Some l)
-        ↔ (IsHadOn plan.now router prefix address l
-        × ((k : ℕ) → IsHadOn plan.now router prefix address k → k ≡ l)) }
+        ↔ (IsHadOn (network_for plan.now block) router prefix address l
+        × ((k : ℕ) → IsHadOn (network_for plan.now block) router prefix address k → k ≡ l)) }
 {
     plan.lawful();
     let mut found = None;
@@ -91,7 +98,7 @@ fn only_link_with(plan: &Plan, router: usize, address: Address, prefix: usize) -
     for i in numbers {
         let own = plan.interface(*i);
         let link = own.link;
-        if is_had_over(plan, own, address, prefix) {
+        if plan.exchanges(link, block) && is_had_over(plan, own, address, prefix) {
             if found.is_some() {
                 return None;
             }
@@ -102,13 +109,14 @@ fn only_link_with(plan: &Plan, router: usize, address: Address, prefix: usize) -
 }
 
 /// The link over which a next hop goes.
-fn link_of(plan: &Plan, router: usize, hop: &NextHop, prefix: usize) -> Option<usize>
+fn link_of(plan: &Plan, router: usize, hop: &NextHop, prefix: usize, block: Prefix) -> Option<usize>
     requires { router < length plan.now.routers }
-    ensures { (l : ℕ) → (result ≡ Some l) ↔ IsOver plan.now router prefix hop.now l }
+    ensures { (l : ℕ) → (result ≡ Some l)
+        ↔ IsOver (network_for plan.now block) router prefix hop.now l }
 {
     match hop {
         NextHop::Over(link) => Some(*link),
-        NextHop::Via(address) => only_link_with(plan, router, *address, prefix),
+        NextHop::Via(address) => only_link_with(plan, router, *address, prefix, block),
     }
 }
 
@@ -125,19 +133,22 @@ fn mark_hops<G: RouteTables>(
     requires prefix { prefix < length (G.tables tables.now).prefixes }
     requires size { length plan.now.links ≤ length marks.old }
     requires blank { AreMarks (λ l. ⊥) marks.old }
-    ensures { AreMarks (λ l. SendsOver plan.now (G.tables tables.now) router l prefix) marks.new }
+    ensures { AreMarks (λ l. SendsOver (network_at plan.now (G.tables tables.now).prefixes prefix)
+        (G.tables tables.now) router l prefix) marks.new }
 {
     plan.lawful();
+    let block = tables.prefix(prefix);
     let hops = tables.next_hops(router, prefix);
     for hop in hops {
-        match link_of(plan, router, hop, prefix) {
+        match link_of(plan, router, hop, prefix, block) {
             Some(link) => marks[link] = true,
             None => {}
         }
     }
 }
 
-/// Marks the link to which a router has the prefix attached, if it is its own way.
+/// Marks the link to which a router has the prefix attached, if that exchanges the prefix and the
+/// router is its own way.
 fn mark_attached<G: RouteTables>(
     plan: &Plan,
     tables: &G,
@@ -147,15 +158,22 @@ fn mark_attached<G: RouteTables>(
 )
     requires prefix { prefix < length (G.tables tables.now).prefixes }
     requires size { length plan.now.links ≤ length marks.old }
-    requires marks { AreMarks (λ l. SendsOver plan.now (G.tables tables.now) router l prefix)
-        marks.old }
-    ensures { AreMarks (λ l. SendsOver plan.now (G.tables tables.now) router l prefix
-        ⊎ IsHereOn plan.now (G.tables tables.now) router prefix l) marks.new }
+    requires marks { AreMarks (λ l.
+        SendsOver (network_at plan.now (G.tables tables.now).prefixes prefix)
+        (G.tables tables.now) router l prefix) marks.old }
+    ensures { AreMarks (λ l. SendsOver (network_at plan.now (G.tables tables.now).prefixes prefix)
+        (G.tables tables.now) router l prefix
+        ⊎ IsHereOn (network_at plan.now (G.tables tables.now).prefixes prefix)
+        (G.tables tables.now) router prefix l) marks.new }
 {
     plan.lawful();
     if tables.is_here(router, prefix) {
         match plan.attached_link(router, prefix) {
-            Some(link) => marks[link] = true,
+            Some(link) => {
+                if plan.exchanges(link, tables.prefix(prefix)) {
+                    marks[link] = true;
+                }
+            }
             None => {}
         }
     }
@@ -169,13 +187,23 @@ fn shown_on(marks: &[bool], link: usize, metric: u8) -> u8
     if marks[link] { 0 } else { metric }
 }
 
-/// Writes a metric to the cells of a router's interfaces, and 0 where the link is marked.
-fn write_cells(plan: &Plan, router: usize, metric: u8, marks: &[bool], row: &mut [u8])
+/// Writes a metric to the cells of a router's interfaces, and 0 where the link is marked or does
+/// not exchange the prefix.
+fn write_cells(
+    plan: &Plan,
+    router: usize,
+    block: Prefix,
+    metric: u8,
+    marks: &[bool],
+    row: &mut [u8],
+)
     requires router { router < length plan.now.routers }
     requires marks { length plan.now.links ≤ length marks.now }
     requires row { length row.old ≡ length plan.now.interfaces }
-    ensures own { (i l c : ℕ) → IsInterface plan.now i router l c → slice_index row.new i
-        ≡ (if slice_index_or marks.now l false then 0 else metric) }
+    ensures own { (i l c : ℕ) → IsInterface (network_for plan.now block) i router l c →
+        slice_index row.new i ≡ (if slice_index_or marks.now l false then 0 else metric) }
+    ensures closed { (i l c : ℕ) → IsInterface plan.now i router l c →
+        (Exchanges plan.now l block → ⊥) → slice_index row.new i ≡ 0 }
     ensures others { (i s l c : ℕ) → IsInterface plan.now i s l c → s ≢ router →
         slice_index row.new i ≡ slice_index row.old i }
 {
@@ -183,7 +211,11 @@ fn write_cells(plan: &Plan, router: usize, metric: u8, marks: &[bool], row: &mut
     let numbers = plan.of_router(router);
     for i in numbers {
         let own = plan.interface(*i);
-        row[*i] = shown_on(marks, own.link, metric);
+        row[*i] = if plan.exchanges(own.link, block) {
+            shown_on(marks, own.link, metric)
+        } else {
+            0
+        };
     }
 }
 
@@ -207,7 +239,7 @@ fn write_router<G: RouteTables>(
     mark_hops(plan, tables, router, prefix, &mut marks);
     mark_attached(plan, tables, router, prefix, &mut marks);
     let shown = if metric < 16 { metric as u8 } else { 0 };
-    write_cells(plan, router, shown, &marks, row);
+    write_cells(plan, router, tables.prefix(prefix), shown, &marks, row);
 }
 
 /// Writes what all routers tell of a prefix.

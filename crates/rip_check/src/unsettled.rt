@@ -4,7 +4,7 @@ ghost use Rattle.std.specs.Prelude.{◌≡◌, ◌<◌, IfNone, IfOk, IfSome, le
 ghost use Rattle.rip_plan.specs.Network.{Network};
 ghost use Rattle.rip_table.specs.State.{Fits, State};
 ghost use Rattle.rip_check.specs.Marks.{AreUnsettled, IsMark};
-ghost use Rattle.rip_check.specs.Cases.{At, network_of, state_of, told_in};
+ghost use Rattle.rip_check.specs.Cases.{ByPlan, network_of, plan_of, state_of, told_in};
 ghost use Rattle.rip_check.specs.Verdicts.{IsFailing, IsSound};
 ghost use Rattle.rip_check.specs.Told.{told};
 
@@ -56,13 +56,13 @@ impl Unsettled {
 
     /// The place of a router and the prefix of a case, if it can be read and does not hold.
     pub fn at<T: Table>(&self, case: &Case<'_, T>, router: usize) -> Option<Place2>
-        requires places { AreUnsettled (network_of case.now) (told_in case.now) self.now }
+        requires places { AreUnsettled (plan_of case.now) (told_in case.now) self.now }
         requires router { router < length (network_of case.now).routers }
         ensures some { IfSome result (λ f. (f.router ≡ router) × (f.prefix ≡ case.now.prefix)
-            × IsFailing (network_of case.now) (told_in case.now) f) }
-        ensures none { IfNone result (At case.now IsSound router) }
+            × IsFailing (plan_of case.now) (told_in case.now) f) }
+        ensures none { IfNone result (ByPlan case.now IsSound router) }
     {
-        case.plan.lawful();
+        case.lawful();
         let Some(equation) = mark_at(case, self.marks.as_slice(), router) else {
             return None;
         };

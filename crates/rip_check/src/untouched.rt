@@ -1,11 +1,12 @@
 //! Whether a failure may change a least metric of a prefix: where each router keeps a way, the
 //! metrics of before stay.
 
-ghost use Rattle.std.specs.Prelude.{◌≡◌, ◌≢◌, ◌+◌, ℕ, ◌<◌, ◌⊎◌, Some, false, length, slice_index, true};
-ghost use Rattle.rip_plan.specs.Relations.{HasCost, IsAttached, IsKept, IsOn};
-ghost use Rattle.rip_check.specs.Failures.{is_router_up, network_after};
+ghost use Rattle.std.specs.Prelude.{◌≡◌, ◌≢◌, ◌+◌, ℕ, ◌<◌, ◌⊎◌, Decides, Some, false, length, slice_index, true};
+ghost use Rattle.rip_plan.specs.Relations.{Exchanges, HasCost, IsAttached, IsKept, IsOn};
+ghost use Rattle.rip_check.specs.Failures.{is_router_up, left_to};
+ghost use Rattle.rip_check.specs.Networks.{block_at};
 ghost use Rattle.rip_check.specs.Paths.{IsLeast};
-ghost use Rattle.rip_check.specs.Scenarios.{IsScenario};
+ghost use Rattle.rip_check.specs.Scenarios.{IsScenario, network_before};
 ghost use Rattle.rip_check.specs.Untouched.{HasWayLeft, IsStep, IsStepUp, IsUntouched, KeepsWay};
 
 use crate::expected::Expected;
@@ -27,9 +28,19 @@ impl Scenario<'_> {
     fn metric(&self, router: usize) -> u32
         requires scenario { IsScenario self.now }
         requires router { router < length self.now.plan.now.routers }
-        ensures { IsLeast self.now.plan.now self.now.prefix router result }
+        ensures { IsLeast (network_before self.now) self.now.prefix router result }
     {
         self.before.number(self.plan, router, self.prefix)
+    }
+
+    /// Whether routers exchange the prefix over a link.
+    fn exchanges(&self, link: usize) -> bool
+        requires scenario { IsScenario self.now }
+        requires link { link < length self.now.plan.now.links }
+        ensures { Decides result (Exchanges self.now.plan.now link
+            (block_at self.now.plan.now.prefixes self.now.prefix)) }
+    {
+        self.plan.exchanges(link, self.plan.prefix(self.prefix))
     }
 
     /// Whether a least path of a router, which has this metric, may begin over its interface, to
@@ -37,10 +48,10 @@ impl Scenario<'_> {
     #[inline(always)]
     fn is_step(&self, own: &Interface, metric: u32, next: usize) -> bool
         requires scenario { IsScenario self.now }
-        requires metric { IsLeast self.now.plan.now self.now.prefix own.now.router metric }
+        requires metric { IsLeast (network_before self.now) self.now.prefix own.now.router metric }
         requires next { next < length self.now.plan.now.routers }
         ensures { result ≡ false →
-            IsStep self.now.plan.now self.now.prefix own.now.router own.now.cost next → ⊥ }
+            IsStep (network_before self.now) self.now.prefix own.now.router own.now.cost next → ⊥ }
     {
         u32::from(own.cost) + self.metric(next) == metric && metric < 16
     }
@@ -49,12 +60,13 @@ impl Scenario<'_> {
     /// the least metrics of before.
     fn is_given_over(&self, own: &Interface, metric: u32) -> bool
         requires scenario { IsScenario self.now }
-        requires own { HasCost self.now.plan.now own.now.router own.now.link own.now.cost }
+        requires router { own.now.router < length self.now.plan.now.routers }
+        requires own { HasCost (network_before self.now) own.now.router own.now.link own.now.cost }
         ensures { result ≡ true → (s w : ℕ) × (s ≢ own.now.router)
-            × IsOn self.now.plan.now s own.now.link
+            × IsOn (network_before self.now) s own.now.link
             × (is_router_up (Some self.now.failure) s ≡ true)
-            × (IsAttached self.now.plan.now s self.now.prefix own.now.link → ⊥)
-            × IsLeast self.now.plan.now self.now.prefix s w × (metric ≡ own.now.cost + w) }
+            × (IsAttached (network_before self.now) s self.now.prefix own.now.link → ⊥)
+            × IsLeast (network_before self.now) self.now.prefix s w × (metric ≡ own.now.cost + w) }
     {
         self.plan.lawful();
         let numbers = self.plan.on_link(own.link);
@@ -71,20 +83,25 @@ impl Scenario<'_> {
         false
     }
 
-    /// Whether a router that takes offers is given this metric over any link that has not failed.
+    /// Whether a router that takes offers is given this metric over any link that exchanges the
+    /// prefix and has not failed.
     fn is_given(&self, router: usize, metric: u32) -> bool
         requires scenario { IsScenario self.now }
         requires router { router < length self.now.plan.now.routers }
         requires up { is_router_up (Some self.now.failure) router ≡ true }
-        requires takes { IsKept (network_after self.now.plan.now self.now.failure) router
-            self.now.prefix → ⊥ }
+        requires takes { IsKept (left_to self.now.plan.now (Some self.now.failure) self.now.prefix)
+            router self.now.prefix → ⊥ }
         ensures { result ≡ true →
             HasWayLeft self.now.plan.now self.now.failure self.now.prefix router metric }
     {
+        self.plan.lawful();
         let numbers = self.plan.of_router(router);
         for i in numbers {
             let own = self.plan.interface(*i);
-            if is_link_up(Some(self.failure), own.link) && self.is_given_over(&own, metric) {
+            if is_link_up(Some(self.failure), own.link)
+                && self.exchanges(own.link)
+                && self.is_given_over(&own, metric)
+            {
                 return true;
             }
         }
@@ -98,6 +115,7 @@ impl Scenario<'_> {
         ensures { result ≡ true →
             KeepsWay self.now.plan.now self.now.failure self.now.prefix router }
     {
+        self.plan.lawful();
         let failure = Some(self.failure);
         let metric = self.metric(router);
         if metric == 16 || direct_left(self.plan, failure, router, self.prefix) == metric {
@@ -109,9 +127,10 @@ impl Scenario<'_> {
     /// Whether a least path of a router may begin over its interface.
     fn leads_over(&self, own: &Interface) -> bool
         requires scenario { IsScenario self.now }
-        requires own { HasCost self.now.plan.now own.now.router own.now.link own.now.cost }
-        ensures { result ≡ false → (s : ℕ) → IsOn self.now.plan.now s own.now.link →
-            IsStep self.now.plan.now self.now.prefix own.now.router own.now.cost s → ⊥ }
+        requires router { own.now.router < length self.now.plan.now.routers }
+        requires own { HasCost (network_before self.now) own.now.router own.now.link own.now.cost }
+        ensures { result ≡ false → (s : ℕ) → IsOn (network_before self.now) s own.now.link →
+            IsStep (network_before self.now) self.now.prefix own.now.router own.now.cost s → ⊥ }
     {
         self.plan.lawful();
         let metric = self.metric(own.router);
@@ -130,12 +149,12 @@ impl Scenario<'_> {
     #[inline(always)]
     fn leads_down(&self, own: &Interface) -> bool
         requires scenario { IsScenario self.now }
-        requires own { HasCost self.now.plan.now own.now.router own.now.link own.now.cost }
-        ensures { result ≡ false → (s : ℕ) → IsOn self.now.plan.now s own.now.link →
-            IsStep self.now.plan.now self.now.prefix own.now.router own.now.cost s →
+        requires router { own.now.router < length self.now.plan.now.routers }
+        requires own { HasCost (network_before self.now) own.now.router own.now.link own.now.cost }
+        ensures { result ≡ false → (s : ℕ) → IsOn (network_before self.now) s own.now.link →
+            IsStep (network_before self.now) self.now.prefix own.now.router own.now.cost s →
             IsStepUp self.now.failure own.now.link s }
     {
-        self.plan.lawful();
         match self.failure {
             Failure::Link(_) => self.leads_over(own),
             Failure::Router(failed) => self.is_step(own, self.metric(own.router), failed),
@@ -147,13 +166,13 @@ impl Scenario<'_> {
     #[inline(always)]
     fn is_cut(&self, own: &Interface) -> bool
         requires scenario { IsScenario self.now }
-        requires own { HasCost self.now.plan.now own.now.router own.now.link own.now.cost }
-        ensures { result ≡ false → (s : ℕ) → IsOn self.now.plan.now s own.now.link →
-            IsStep self.now.plan.now self.now.prefix own.now.router own.now.cost s →
+        requires router { own.now.router < length self.now.plan.now.routers }
+        requires own { HasCost (network_before self.now) own.now.router own.now.link own.now.cost }
+        ensures { result ≡ false → (s : ℕ) → IsOn (network_before self.now) s own.now.link →
+            IsStep (network_before self.now) self.now.prefix own.now.router own.now.cost s →
             IsStepUp self.now.failure own.now.link s
             ⊎ KeepsWay self.now.plan.now self.now.failure self.now.prefix own.now.router }
     {
-        self.plan.lawful();
         self.leads_down(own) && !self.keeps_way(own.router)
     }
 
@@ -162,11 +181,16 @@ impl Scenario<'_> {
     fn is_cut_on(&self, link: usize) -> bool
         requires scenario { IsScenario self.now }
         requires link { link < length self.now.plan.now.links }
-        ensures { result ≡ false → (r c s : ℕ) → HasCost self.now.plan.now r link c →
-            IsOn self.now.plan.now s link → IsStep self.now.plan.now self.now.prefix r c s →
+        ensures { result ≡ false → (r c s : ℕ) → r < length self.now.plan.now.routers →
+            HasCost (network_before self.now) r link c → IsOn (network_before self.now) s link →
+            IsStep (network_before self.now) self.now.prefix r c s →
             IsStepUp self.now.failure link s
             ⊎ KeepsWay self.now.plan.now self.now.failure self.now.prefix r }
     {
+        self.plan.lawful();
+        if !self.exchanges(link) {
+            return false;
+        }
         let numbers = self.plan.on_link(link);
         for j in numbers {
             let own = self.plan.interface(*j);
@@ -181,9 +205,10 @@ impl Scenario<'_> {
     fn is_cut_around(&self, router: usize) -> bool
         requires scenario { IsScenario self.now }
         requires router { router < length self.now.plan.now.routers }
-        ensures { result ≡ false → (l r c s : ℕ) → IsOn self.now.plan.now router l →
-            HasCost self.now.plan.now r l c → IsOn self.now.plan.now s l →
-            IsStep self.now.plan.now self.now.prefix r c s → IsStepUp self.now.failure l s
+        ensures { result ≡ false → (l r c s : ℕ) → r < length self.now.plan.now.routers →
+            IsOn (network_before self.now) router l → HasCost (network_before self.now) r l c →
+            IsOn (network_before self.now) s l →
+            IsStep (network_before self.now) self.now.prefix r c s → IsStepUp self.now.failure l s
             ⊎ KeepsWay self.now.plan.now self.now.failure self.now.prefix r }
     {
         self.plan.lawful();
@@ -236,7 +261,7 @@ impl Scenario<'_> {
         requires size { length row.old ≡ length self.now.plan.now.routers }
         ensures up { (r : ℕ) → r < length self.now.plan.now.routers →
             is_router_up (Some self.now.failure) r ≡ true →
-            IsLeast self.now.plan.now self.now.prefix r (slice_index row.new r) }
+            IsLeast (network_before self.now) self.now.prefix r (slice_index row.new r) }
         ensures failed { (r : ℕ) → r < length self.now.plan.now.routers →
             is_router_up (Some self.now.failure) r ≡ false → slice_index row.new r ≡ 16 }
     {

@@ -3,7 +3,7 @@
 ghost use Rattle.std.specs.Prelude.{◌≡◌, ◌<◌, IfNone, IfOk, IfSome, length};
 ghost use Rattle.rip_plan.specs.Network.{Network};
 ghost use Rattle.rip_table.specs.State.{Fits, State};
-ghost use Rattle.rip_check.specs.Cases.{network_of, state_of};
+ghost use Rattle.rip_check.specs.Cases.{plan_of, state_of};
 ghost use Rattle.rip_check.specs.Marks.{AreWrong, IsOwnMark};
 ghost use Rattle.rip_check.specs.OwnTells.{IsToldBy};
 ghost use Rattle.rip_check.specs.OwnVerdicts.{IsOwnFailing, IsOwnSound};
@@ -38,8 +38,8 @@ impl<G: RouteTables> Marking for ByTables<'_, G> {
     ghost is_mark = { λ marking n s. IsOwnMark n s (G.tables marking.tables.now) };
 
     fn mark<T: Table>(&self, case: &Case<'_, T>, router: usize) -> Option<u8> {
-        case.plan.lawful();
-        let keeps = case.plan.keeps(router, case.prefix);
+        case.lawful();
+        let keeps = case.keeps(router);
         let equation = least_choice(case, router, keeps);
         match wrong_by(case, self.tables, router, keeps, equation) {
             Some(_) => Some(equation as u8),
@@ -74,21 +74,21 @@ impl WrongPlaces {
         tables: &G,
         router: usize,
     ) -> Option<OwnPlace>
-        requires told { IsToldBy (network_of case.now) (G.tables tables.now) (state_of case.now) }
-        requires places { AreWrong (network_of case.now) (state_of case.now) (G.tables tables.now)
+        requires told { IsToldBy (plan_of case.now) (G.tables tables.now) (state_of case.now) }
+        requires places { AreWrong (plan_of case.now) (state_of case.now) (G.tables tables.now)
             self.now }
-        requires router { router < length (network_of case.now).routers }
+        requires router { router < length (plan_of case.now).routers }
         ensures some { IfSome result (λ place. (place.router ≡ router)
             × (place.prefix ≡ case.now.prefix)
-            × IsOwnFailing (network_of case.now) (state_of case.now) (G.tables tables.now) place) }
+            × IsOwnFailing (plan_of case.now) (state_of case.now) (G.tables tables.now) place) }
         ensures none { IfNone result
-            (IsOwnSound (network_of case.now) (state_of case.now) (G.tables tables.now) router
+            (IsOwnSound (plan_of case.now) (state_of case.now) (G.tables tables.now) router
             case.now.prefix) }
     {
         let Some(equation) = mark_at(case, self.marks.as_slice(), router) else {
             return None;
         };
-        let keeps = case.plan.keeps(router, case.prefix);
+        let keeps = case.keeps(router);
         let wrong = wrong_by(case, tables, router, keeps, u32::from(equation));
         own_place(case, tables, router, wrong)
     }

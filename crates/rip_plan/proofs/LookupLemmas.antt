@@ -107,9 +107,10 @@ pub one_seat : (n : Network) (j k : ℕ) (seat other : Seat) → IsPlace n j k s
 one_seat n j k seat other h h' = ap (λ (q : Place). q.seat) (same_Some _ _ (sym h.listed ∙ h'.listed))
 
 -- a router has a prefix at one cost
-pub direct_once : (n : Network) → IsLawful n → (r k c d : ℕ) → IsDirect n r k c → IsDirect n r k d → c ≡ d
-direct_once n laws r k c d (j, h) (m, h') =
-    let one : j ≡ m = laws.touched_once j m k r c d h h' in
+pub direct_once : (n : Network) → ((k j p r c d : ℕ) → Touches n k p r c → Touches n j p r d → k ≡ j)
+    → ((i j r l c d : ℕ) → IsInterface n i r l c → IsInterface n j r l d → i ≡ j) → (r k c d : ℕ) → IsDirect n r k c → IsDirect n r k d → c ≡ d
+direct_once n touched_once one_on_link r k c d (j, h) (m, h') =
+    let one : j ≡ m = touched_once j m k r c d h h' in
     same_touch h (subst (λ (p : ℕ). Touches n p k r d) (sym one) h')
   where
     same_touch : Touches n j k r c → Touches n j k r d → c ≡ d
@@ -117,7 +118,7 @@ direct_once n laws r k c d (j, h) (m, h') =
         let seat : seats.Link l ≡ seats.Link l' = one_seat n j k _ _ place place' in
         let link : l ≡ l' = cc in
         let is'' : IsConnected n i' r l d = rw (← link) at is' in
-        let same : i ≡ i' = laws.one_on_link i i' r l is.interface.cost is''.interface.cost (interface_of n i r l c is) (interface_of n i' r l d is'') in
+        let same : i ≡ i' = one_on_link i i' r l is.interface.cost is''.interface.cost (interface_of n i r l c is) (interface_of n i' r l d is'') in
         let listed : slice_get n.interfaces i ≡ slice_get n.interfaces i' = ap (slice_get n.interfaces) same in
         sym is.direct ∙ ap (λ (x : Interface). x.direct) (same_Some _ _ (sym is.listed ∙ listed ∙ is''.listed)) ∙ is''.direct
     same_touch (inl (l, place, on)) (inr own) = let seat : seats.Link l ≡ seats.Own own.own = one_seat n j k _ _ place own.place in absurd cc
@@ -130,11 +131,18 @@ direct_once n laws r k c d (j, h) (m, h') =
 pub direct_gives : (n : Network) (r k c : ℕ) → direct_at r k n.interfaces n.places ≡ Some c → IsDirect n r k c
 direct_gives n r k c h = grind (arith, direct_found, cost_touches)
 
+pub direct_or_not : (n : Network) (r k : ℕ) → ((c : ℕ) × IsDirect n r k c) ⊎ ((c : ℕ) → IsDirect n r k c → ⊥)
+direct_or_not n r k =
+    elim (cases_option (direct_at r k n.interfaces n.places)) [
+      | inl e ↦ inr (λ c (j, touch). let (seat, place, some) = touch_costs n j k r c touch in some (direct_there r k j seat n.interfaces n.places place.listed e))
+      | inr (c, e) ↦ inl (c, direct_gives n r k c e)
+    ]
+
 pub direct_finds : (n : Network) → IsLawful n → (r k c : ℕ) → IsDirect n r k c → direct_at r k n.interfaces n.places ≡ Some c
 direct_finds n laws r k c h =
     elim (cases_option (direct_at r k n.interfaces n.places)) [
       | inl e ↦ let (seat, place, some) = touch_costs n h.0 k r c h.1 in absurd (some (direct_there r k h.0 seat n.interfaces n.places place.listed e))
-      | inr (d, e) ↦ e ∙ ap (λ (m : ℕ). Some m) (direct_once n laws r k d c (direct_gives n r k d e) h)
+      | inr (d, e) ↦ e ∙ ap (λ (m : ℕ). Some m) (direct_once n laws.touched_once laws.one_on_link r k d c (direct_gives n r k d e) h)
     ]
 
 -- ---- carriers

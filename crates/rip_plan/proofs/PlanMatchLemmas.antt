@@ -1,5 +1,5 @@
 -- A plan that was read is matched item by item with the document, and each item stands where the document has it.
-use Rattle.std.proofs.Common.{◌≡◌, ℕ, ◌+◌, ◌-◌, List, [], ◌∷◌, ◌++◌, map, append_assoc, Bool, Some, Ok, refl, sym, ◌∙◌, ap, subst, arith, length, ◌≤◌, true, false, not, ◌||◌, Option, None}
+use Rattle.std.proofs.Common.{◌≡◌, ℕ, ◌+◌, ◌-◌, List, [], ◌∷◌, ◌++◌, map, append_assoc, Bool, Some, Ok, refl, sym, ◌∙◌, ap, subst, arith, length, ◌≤◌, false, not, ◌||◌}
 use Rattle.std.specs.Prelude.{is_some, nat_le, nat_lt, unwrap_or, codes as codes_of}
 use Rattle.std.proofs.lemmas.List.{append-nil, length-map, map-append}
 use Rattle.toml.specs.Data.{Data, Members, as_str, as_table, get, get_member}

@@ -11,7 +11,7 @@ pub data Table : Type 0 where
 
 abbrev pub keys_of : Table → List (List ℕ)
 keys_of the_root = codes "version" ∷ codes "link" ∷ codes "router" ∷ codes "poison" ∷ []
-keys_of a_link = codes "name" ∷ codes "prefixes" ∷ []
+keys_of a_link = codes "name" ∷ codes "prefixes" ∷ codes "only" ∷ []
 keys_of a_router = codes "name" ∷ codes "interface" ∷ codes "own" ∷ []
 keys_of an_interface =
     codes "link" ∷ codes "address" ∷ codes "cost" ∷ codes "direct" ∷ codes "also"

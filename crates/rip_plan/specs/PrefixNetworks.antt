@@ -1,5 +1,5 @@
 -- The network of one prefix: what is left of a network without the links that do not exchange it.
-use Rattle.std.specs.Prelude.{◌≡◌, ℕ, ◌+◌, ◌<◌, ◌≤◌, Bool, true, false, ◌||◌, not, if◌then◌else◌, Option, None, Some, is_some, length, map, option_and_then, slice_get, unwrap_or}
+use Rattle.std.specs.Prelude.{◌≡◌, ℕ, ◌+◌, ◌<◌, ◌≤◌, Bool, true, false, ◌||◌, not, if◌then◌else◌, None, is_some, length, map, option_and_then, slice_get, unwrap_or}
 use Rattle.std.specs.List.{list_any}
 use Rattle.std.specs.Option.{option_map_or}
 use Rattle.rip_wire.specs.Prefix.{Block}
@@ -23,34 +23,39 @@ exchanges n b l =
     || is_some (option_and_then (λ k. first_carrying l k 0 n.places)
     (number_of_prefix b n.prefixes)))
 
--- an interface on a link that does not exchange the prefix is no router's of the plan
-abbrev pub interface_for : Network → Block → Interface → Interface
-interface_for n b i =
-    if exchanges n b i.link then i else record i { router = length n.routers + i.router }
+-- ---- a network without the links that are closed
+
+-- an interface on a closed link is no router's of the plan
+abbrev pub interface_where : (ℕ → Bool) → Network → Interface → Interface
+interface_where free n i =
+    if free i.link then i else record i { router = length n.routers + i.router }
 
 -- an own prefix that is attached to such a link is kept without it
-abbrev pub own_for : Network → Block → OwnPrefix → OwnPrefix
-own_for n b own =
-    if option_map_or (exchanges n b) own.link true then own
-    else record own { kept = true; link = None }
+abbrev pub own_where : (ℕ → Bool) → OwnPrefix → OwnPrefix
+own_where free own =
+    if option_map_or free own.link true then own else record own { kept = true; link = None }
 
-abbrev pub seat_for : Network → Block → Seat → Seat
-seat_for n b (seats.Link l) = seats.Link l
-seat_for n b (seats.Own own) = seats.Own (own_for n b own)
+abbrev pub seat_where : (ℕ → Bool) → Seat → Seat
+seat_where free (seats.Link l) = seats.Link l
+seat_where free (seats.Own own) = seats.Own (own_where free own)
 
-abbrev pub place_for : Network → Block → Place → Place
-place_for n b q = record q { seat = seat_for n b q.seat }
+abbrev pub place_where : (ℕ → Bool) → Place → Place
+place_where free q = record q { seat = seat_where free q.seat }
 
--- The network of prefix b: the interfaces on links that do not exchange it belong to nobody.
--- Interfaces, links, routers and places keep their numbers.
-abbrev pub network_for : Network → Block → Network
-network_for n b = record n {
-  interfaces = map (interface_for n b) n.interfaces;
-  places = map (place_for n b) n.places;
+-- The interfaces on closed links belong to nobody. Interfaces, links, routers and places keep their
+-- numbers.
+abbrev pub network_where : (ℕ → Bool) → Network → Network
+network_where free n = record n {
+  interfaces = map (interface_where free n) n.interfaces;
+  places = map (place_where free) n.places;
 }
 
--- the laws that a plan's network keeps, and the network of each prefix: all but that each router
--- has an interface, and that each interface has a router
+-- the network of prefix b: without the links that do not exchange it
+abbrev pub network_for : Network → Block → Network
+network_for n b = network_where (exchanges n b) n
+
+-- the laws that paths and routes rest on: a plan's network keeps them, and the network of each prefix,
+-- in which a router may have no interface, and an interface no router of the plan
 pub record IsNetwork (n : Network) : Type 0 where
   pub few_links : length n.links ≤ MOST_LINKS
   pub few_routers : length n.routers ≤ MOST_ROUTERS

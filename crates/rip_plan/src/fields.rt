@@ -126,7 +126,7 @@ pub(crate) struct LinkFields<'a> {
 pub(crate) fn fields_of_link<'a>(table: &'a Table) -> Option<LinkFields<'a>>
     ensures { option_map seen_link result ≡ link_fields (table_view table.now) }
 {
-    if !has_only(table, &["name", "prefixes"]) {
+    if !has_only(table, &["name", "prefixes", "only"]) {
         return None;
     }
     let name = text_at(table, "name")?;

@@ -546,7 +546,8 @@ impl Plan {
     /// Whether a link has a list of the prefixes that are exchanged over it.
     pub fn has_list(&self, link: usize) -> bool
         requires { link < length self.now.links }
-        ensures { Decides result (HasList self.now link) }
+        ensures exact { slice_get self.now.lists link ≡ Some result }
+        ensures has { Decides result (HasList self.now link) }
     {
         self.lawful();
         self.lists[link]

@@ -1,8 +1,10 @@
 -- Verdicts and their statuses.
-use Rattle.std.proofs.Common.{◌≡◌, ◌≢◌, ℕ, ◌<◌, length, Bool, List, None, Result, Ok, Err, refl, ap}
+use Rattle.std.proofs.Common.{◌≡◌, ◌≢◌, ℕ, ◌<◌, length, inl, inr, Bool, List, None, Result, Ok, Err, refl, sym, ap, subst}
 use Rattle.std.specs.Prelude.{◌↔◌, IfOk}
 use Rattle.rip_plan.specs.Network.{Network}
-use Rattle.rip_plan.specs.Relations.{IsAttached, IsLawful}
+use Rattle.rip_plan.specs.PrefixNetworks.{IsNetwork}
+use Rattle.rip_plan.specs.Relations.{HasList, IsAttached, IsLawful}
+use Rattle.rip_plan.proofs.PrefixNetworkLemmas.{prefix_network, same_network}
 use Rattle.rip_table.specs.State.{State}
 use Rattle.rip_check.specs.Verdicts.{IsVerdict, ShowsTables, IsNextUnsettled}
 use Rattle.rip_check.specs.declared.verdict.Place2.{Place2}
@@ -20,36 +22,51 @@ use Rattle.rip_check.specs.Laws.{ShowsRightTables}
 use Rattle.rip_check.specs.Settled.{IsPlainRight, IsRight}
 use Rattle.rip_check.specs.Tables.{Route}
 use Rattle.rip_check.specs.Told.{told}
-use Rattle.rip_check.specs.Firsts.{IsFirstTrouble, IsReason}
+use Rattle.rip_check.specs.Firsts.{IsCause, IsFirstTrouble, IsReason}
+use Rattle.rip_check.specs.Networks.{block_at, network_at}
 use Rattle.rip_check.specs.Walks.{PacketsArrive}
 
--- the link to which a prefix is attached is one of the plan
-attached_known : (n : Network) (r p l : ℕ) → IsLawful n → IsAttached n r p l → l < length n.links
-attached_known n r p l lawful attached = let (c, (i, is)) = lawful.attached_there r p l attached in lawful.link_known i r l c is
+-- the link to which a prefix is attached is known
+attached_known : (n : Network) (r p l : ℕ) → IsNetwork n → IsAttached n r p l → l < length n.links
+attached_known n r p l laws attached = let (c, (i, is)) = laws.attached_there r p l attached in laws.link_known i r l c is
+
+-- the network of a prefix keeps the laws of a network
+its : (n : Network) (s : State) (p : ℕ) → IsLawful n → IsNetwork (network_at n s.prefixes p)
+its n s p lawful = prefix_network n lawful (block_at s.prefixes p)
+
+-- the link of a reason is known
+reason_link : (n : Network) (s : State) (r p : ℕ) (trouble : Unclear) → IsLawful n → IsReason (network_at n s.prefixes p) (told n s) r p trouble → IsKnownReason n trouble
+reason_link n s r p (NotHeard t l) lawful h = tt
+reason_link n s r p (TwoMetrics t q) lawful h = tt
+reason_link n s r p (Missing t q l) lawful h = (its n s p lawful).link_known h.3.interface r l h.3.cost h.3.its
+reason_link n s r p (ShownOn t q l) lawful h = attached_known (network_at n s.prefixes p) r p l (its n s p lawful) h.3.0
+reason_link n s r p (TwoWays t q) lawful h = tt
+
+-- the router, the prefix and the link of a reason are known
+reason_names : (n : Network) (s : State) (r p : ℕ) (trouble : Unclear) → IsLawful n → r < length n.routers → p < length s.prefixes → IsReason (network_at n s.prefixes p) (told n s) r p trouble →
+    IsKnownTrouble n s trouble
+reason_names n s r p (NotHeard t l) lawful router prefix h = absurd h
+reason_names n s r p (TwoMetrics t q) lawful router prefix h = (rw h.0 router, rw h.1 prefix)
+reason_names n s r p (Missing t q l) lawful router prefix h = (rw h.0 router, rw h.1 prefix, (its n s p lawful).link_known h.3.interface r l h.3.cost h.3.its)
+reason_names n s r p (ShownOn t q l) lawful router prefix h = (rw h.0 router, rw h.1 prefix, attached_known (network_at n s.prefixes p) r p l (its n s p lawful) h.3.0)
+reason_names n s r p (TwoWays t q) lawful router prefix h = (rw h.0 router, rw h.1 prefix)
+
+-- so it is of a cause
+pub known_reason : (n : Network) (s : State) (r p : ℕ) (trouble : Unclear) → IsLawful n → IsCause n (told n s) r p trouble → IsKnownReason n trouble
+known_reason n s r p trouble lawful (inl (l, loud, e)) = subst (IsKnownReason n) (sym e) (lawful.link_known loud.interface r l loud.cost loud.its)
+known_reason n s r p trouble lawful (inr (quiet, h)) = reason_link n s r p trouble lawful h
+
+pub reason_known : (n : Network) (s : State) (r p : ℕ) (trouble : Unclear) → IsLawful n → r < length n.routers → p < length s.prefixes → IsCause n (told n s) r p trouble → IsKnownTrouble n s trouble
+reason_known n s r p trouble lawful router prefix (inl (l, loud, e)) = subst (IsKnownTrouble n s) (sym e) (router, prefix, lawful.link_known loud.interface r l loud.cost loud.its)
+reason_known n s r p trouble lawful router prefix (inr (quiet, h)) = reason_names n s r p trouble lawful router prefix h
 
 -- what a trouble names is known
 pub known_trouble : (n : Network) (s : State) (trouble : Unclear) → IsLawful n → IsFirstTrouble n (told n s) trouble → IsKnownTrouble n s trouble
 known_trouble n s (NotHeard r l) lawful h = (lawful.router_known h.interface r l h.cost h.its, lawful.link_known h.interface r l h.cost h.its)
-known_trouble n s (TwoMetrics r p) lawful (heard, h) = (rw h.reason.0 h.first.router, rw h.reason.1 h.first.prefix)
-known_trouble n s (Missing r p l) lawful (heard, h) = (rw h.reason.0 h.first.router, rw h.reason.1 h.first.prefix, lawful.link_known h.reason.3.interface h.router l h.reason.3.cost h.reason.3.its)
-known_trouble n s (ShownOn r p l) lawful (heard, h) = (rw h.reason.0 h.first.router, rw h.reason.1 h.first.prefix, attached_known n h.router h.prefix l lawful h.reason.3.0)
-known_trouble n s (TwoWays r p) lawful (heard, h) = (rw h.reason.0 h.first.router, rw h.reason.1 h.first.prefix)
-
--- the link of a reason is known
-pub known_reason : (n : Network) (s : State) (r p : ℕ) (trouble : Unclear) → IsLawful n → IsReason n (told n s) r p trouble → IsKnownReason n trouble
-known_reason n s r p (NotHeard t l) lawful h = tt
-known_reason n s r p (TwoMetrics t q) lawful h = tt
-known_reason n s r p (Missing t q l) lawful h = lawful.link_known h.3.interface r l h.3.cost h.3.its
-known_reason n s r p (ShownOn t q l) lawful h = attached_known n r p l lawful h.3.0
-known_reason n s r p (TwoWays t q) lawful h = tt
-
--- the router, the prefix and the link of a reason are known
-pub reason_known : (n : Network) (s : State) (r p : ℕ) (trouble : Unclear) → IsLawful n → r < length n.routers → p < length s.prefixes → IsReason n (told n s) r p trouble → IsKnownTrouble n s trouble
-reason_known n s r p (NotHeard t l) lawful router prefix h = absurd h
-reason_known n s r p (TwoMetrics t q) lawful router prefix h = (rw h.0 router, rw h.1 prefix)
-reason_known n s r p (Missing t q l) lawful router prefix h = (rw h.0 router, rw h.1 prefix, lawful.link_known h.3.interface r l h.3.cost h.3.its)
-reason_known n s r p (ShownOn t q l) lawful router prefix h = (rw h.0 router, rw h.1 prefix, attached_known n r p l lawful h.3.0)
-reason_known n s r p (TwoWays t q) lawful router prefix h = (rw h.0 router, rw h.1 prefix)
+known_trouble n s (TwoMetrics r p) lawful (heard, h) = reason_known n s h.router h.prefix (TwoMetrics r p) lawful h.first.router h.first.prefix h.reason
+known_trouble n s (Missing r p l) lawful (heard, h) = reason_known n s h.router h.prefix (Missing r p l) lawful h.first.router h.first.prefix h.reason
+known_trouble n s (ShownOn r p l) lawful (heard, h) = reason_known n s h.router h.prefix (ShownOn r p l) lawful h.first.router h.first.prefix h.reason
+known_trouble n s (TwoWays r p) lawful (heard, h) = reason_known n s h.router h.prefix (TwoWays r p) lawful h.first.router h.first.prefix h.reason
 
 -- what judging answers, of each verdict
 pub record Judges (n : Network) (s : State) (v : Verdict) : Type 0 where
@@ -123,10 +140,12 @@ headline n s IsAccepted (Ok status) accepted judged = λ other. (let j = judged 
 headline n s IsAccepted (Err e) accepted judged = tt
 
 -- a verdict on a plan that says nothing beside the standard, by the paths over any neighbours
-pub plain_headline : (n : Network) (s : State) (outcome : Result Status RunError) → ((r p : ℕ) (route : Route) → IsRight n r p route ↔ IsPlainRight n r p route) → IfOk outcome (IsJudged n s)
+pub plain_headline : (n : Network) (s : State) (outcome : Result Status RunError) → ((l : ℕ) → HasList n l → ⊥) → ((r p : ℕ) (route : Route) → IsRight n r p route ↔ IsPlainRight n r p route) → IfOk outcome (IsJudged n s)
     → IfOk outcome (λ status. (status ≡ Settled) ↔ ShowsPlainRightTables n s)
-plain_headline n s (Ok status) plain judged = (
-  λ h. let (T, shows, right) = judged.settled.0 h in (T, shows, λ r p below within. (plain r p (T r p)).0 (right r p below within)),
-  λ h. let (T, shows, right) = h in judged.settled.1 (T, shows, λ r p below within. (plain r p (T r p)).1 (right r p below within)),
+plain_headline n s (Ok status) free plain judged = (
+  λ h. let (T, shows, right) = judged.settled.0 h in
+      (T, shows, λ r p below within. (plain r p (T r p)).0 (subst (λ (m : Network). IsRight m r p (T r p)) (same_network n (block_at s.prefixes p) free) (right r p below within))),
+  λ h. let (T, shows, right) = h in
+      judged.settled.1 (T, shows, λ r p below within. subst (λ (m : Network). IsRight m r p (T r p)) (sym (same_network n (block_at s.prefixes p) free)) ((plain r p (T r p)).1 (right r p below within))),
 )
-plain_headline n s (Err e) plain judged = tt
+plain_headline n s (Err e) free plain judged = tt

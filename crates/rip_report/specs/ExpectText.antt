@@ -2,6 +2,7 @@
 use Rattle.std.specs.Prelude.{◌≡◌, ℕ, nat_lt, if◌then◌else◌, List, [], ◌++◌, length, codes, decimal, option_map, slice_get, slice_index, unwrap_or}
 use Rattle.rip_plan.specs.Network.{Network, is_of, numbers_where}
 use Rattle.rip_check.specs.Expected.{AreUnreachable, IsExpected}
+use Rattle.rip_check.specs.Networks.{network_at}
 use Rattle.rip_check.specs.declared.way.Way.{Way}
 use Rattle.rip_check.specs.declared.way.Way.TheVariants.{Unreachable, Here, Over}
 use Rattle.rip_report.specs.Listings.{TextsBelow}
@@ -29,9 +30,10 @@ route_line n r p m way =
 
 -- the line of a way of router r for prefix p, where it is right; nothing where it is not
 pub data WayLine (n : Network) (r p : ℕ) (way : Way) : List ℕ → Type 0 where
-  right : (m : ℕ) → IsExpected n r p (record { metric = m; way = way })
+  right : (m : ℕ) → IsExpected (network_at n n.prefixes p) r p (record { metric = m; way = way })
       → WayLine n r p way (route_line n r p m way)
-  other : ((m : ℕ) → IsExpected n r p (record { metric = m; way = way }) → ⊥)
+  other : ((m : ℕ)
+      → IsExpected (network_at n n.prefixes p) r p (record { metric = m; way = way }) → ⊥)
       → WayLine n r p way []
 
 -- the link of a router's interface, by its number among the router's interfaces

@@ -2,10 +2,11 @@
 use Rattle.std.specs.Prelude.{◌≡◌, ℕ, ◌<◌, nat_lt, Bool, true, false, if◌then◌else◌, IsTrue, List, [], ◌++◌, length, codes, decimal, Decides, Option, None, Some, slice_get}
 use Rattle.std.specs.List.{flat_map}
 use Rattle.rip_plan.specs.Network.{Network, is_of, is_on, numbers_where}
-use Rattle.rip_plan.specs.Relations.{IsDirect, IsInterface, IsKept}
+use Rattle.rip_plan.specs.Relations.{Exchanges, IsDirect, IsInterface, IsKept}
 use Rattle.rip_plan.specs.declared.parts.Interface.{Interface}
 use Rattle.rip_table.specs.State.{State}
-use Rattle.rip_check.specs.Firsts.{IsFirstTrouble, IsReadable, IsReason}
+use Rattle.rip_check.specs.Firsts.{CanBeRead, IsCause, IsFirstTrouble}
+use Rattle.rip_check.specs.Networks.{block_at, network_at}
 use Rattle.rip_check.specs.Laws.{ShowsRightTables}
 use Rattle.rip_check.specs.Metrics.{metric_at}
 use Rattle.rip_check.specs.Paths.{IsLeast}
@@ -100,15 +101,19 @@ ShownLines n s r p = TextsOf (ShownLine n s p) (numbers_of n r)
 -- what the router of interface j offers over the link of a router's own interface, if it is another
 pub data OfferLine (n : Network) (s : State) (own : Interface) (p j : ℕ) : List ℕ → Type 0 where
   an_offer : (x : Interface) (value : ℕ) → slice_get n.interfaces j ≡ Some x
-      → Offers n s own.router own.link x.router p value
+      → Offers (network_at n s.prefixes p) s own.router own.link x.router p value
       → OfferLine n s own p j (offer_line n own x.router (metric_at s j p) value)
   its_own : (x : Interface) → slice_get n.interfaces j ≡ Some x → x.router ≡ own.router
       → OfferLine n s own p j []
 
--- what is offered over the link of a router's interface, by its number
+-- what is offered over the link of a router's interface, by its number, if the link exchanges the
+-- prefix
 pub data OffersOver (n : Network) (s : State) (p i : ℕ) : List ℕ → Type 0 where
   offers : (own : Interface) (text : List ℕ) → slice_get n.interfaces i ≡ Some own
+      → Exchanges n own.link (block_at s.prefixes p)
       → TextsOf (OfferLine n s own p) (numbers_on n own.link) text → OffersOver n s p i text
+  closed : (own : Interface) → slice_get n.interfaces i ≡ Some own
+      → (Exchanges n own.link (block_at s.prefixes p) → ⊥) → OffersOver n s p i []
 
 -- all that is offered to router r
 abbrev pub OfferLines : Network → State → ℕ → ℕ → List ℕ → Type 0
@@ -129,7 +134,7 @@ pub record PlaceLines (n : Network) (s : State) (f : Place2) (text : List ℕ) :
   pub shown_lines : ShownLines n s f.router f.prefix shown
   pub direct_line : DirectLine n f.router f.prefix direct
   pub offer_lines : OfferLines n s f.router f.prefix offers
-  pub is_least : IsLeast n f.prefix f.router least
+  pub is_least : IsLeast (network_at n n.prefixes f.prefix) f.prefix f.router least
   pub whole : text ≡ unsettled_line n s f ++ (shown
       ++ (read_route_line n (record { metric = f.metric; way = f.way }) f.hidden
       ++ (direct ++ (offers ++ least_line n f.prefix least))))
@@ -172,18 +177,19 @@ pub data UnheardLines (n : Network) (s : State) (i : ℕ) : List ℕ → Type 0 
 
 -- the lines of router r and prefix p, if no route can be read there
 pub data UnreadLines (n : Network) (s : State) (r p : ℕ) : List ℕ → Type 0 where
-  unread : (trouble : Unclear) (text : List ℕ) → (IsReadable n (told n s) r p → ⊥)
-      → IsReason n (told n s) r p trouble → TroubleLines n s trouble text
+  unread : (trouble : Unclear) (text : List ℕ) → (CanBeRead n (told n s) r p → ⊥)
+      → IsCause n (told n s) r p trouble → TroubleLines n s trouble text
       → UnreadLines n s r p text
-  readable : IsReadable n (told n s) r p → UnreadLines n s r p []
+  readable : CanBeRead n (told n s) r p → UnreadLines n s r p []
 
 -- ---- Texts
 
 -- the line of router r and prefix p, where the prefix is planned and no path costs less than 16
 pub data UnreachableLine (n : Network) (s : State) (r p : ℕ) : List ℕ → Type 0 where
-  unreachable : p < length n.prefixes → IsLeast n p r 16
+  unreachable : p < length n.prefixes → IsLeast (network_at n n.prefixes p) p r 16
       → UnreachableLine n s r p (unreachable_line n s r p)
-  reachable : (p < length n.prefixes → IsLeast n p r 16 → ⊥) → UnreachableLine n s r p []
+  reachable : (p < length n.prefixes → IsLeast (network_at n n.prefixes p) p r 16 → ⊥)
+      → UnreachableLine n s r p []
 
 -- an unsettled network: its first place that does not hold, or all of them
 abbrev pub UnsettledText : Network → State → Bool → Place2 → List ℕ → Type 0

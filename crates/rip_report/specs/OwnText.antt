@@ -16,6 +16,7 @@ use Rattle.rip_check.specs.OwnSettled.{AreRightTables, IsEachListed}
 use Rattle.rip_check.specs.OwnTells.{IsToldBy}
 use Rattle.rip_check.specs.OwnVerdicts.{IsNextUnlisted, IsNextWrong, IsOwnFailing, IsOwnSound}
 use Rattle.rip_check.specs.OwnWalks.{OwnPacketsArrive}
+use Rattle.rip_check.specs.Networks.{network_at}
 use Rattle.rip_check.specs.Paths.{IsLeast}
 use Rattle.rip_check.specs.declared.own_verdict.OwnPlace.{OwnPlace}
 use Rattle.rip_check.specs.declared.own_verdict.OwnVerdict.{OwnVerdict}
@@ -122,7 +123,7 @@ pub record OwnPlaceLines (n : Network) (t : OwnTables) (s : State) (f : OwnPlace
   pub least : ℕ
   pub direct_line : DirectLine n f.router f.prefix direct
   pub offer_lines : OfferLines n s f.router f.prefix offers
-  pub is_least : IsLeast n f.prefix f.router least
+  pub is_least : IsLeast (network_at n n.prefixes f.prefix) f.prefix f.router least
   pub whole : text ≡ own_unsettled_line n s f ++ (has_lines n (route_at t f.router f.prefix)
       ++ (direct ++ (offers ++ least_line n f.prefix least)))
 

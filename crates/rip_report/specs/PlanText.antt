@@ -15,6 +15,7 @@ use Rattle.rip_plan.specs.declared.error.PlanCode.TheVariants.{Syntax, Version, 
 use Rattle.rip_plan.specs.declared.error.PlanError.{PlanError}
 use Rattle.rip_plan.specs.declared.limits.TheConstants.{MOST_PLAN_BYTES}
 use Rattle.rip_plan.specs.declared.parts.Interface.{Interface}
+use Rattle.rip_plan.specs.declared.parts.Listed.{Listed}
 use Rattle.rip_plan.specs.declared.parts.Place.{Place}
 use Rattle.rip_plan.specs.declared.parts.Seat.{Seat}
 use Rattle.rip_plan.specs.declared.parts.Seat.TheVariants as seats
@@ -121,6 +122,22 @@ line_of_interface n (k, i) = interface_line n i (also_of n k)
 abbrev pub interface_lines : Network → List ℕ
 interface_lines n = flat_map (line_of_interface n) (enumerate_from 0 n.interfaces)
 
+-- ` 10.9.0.0/16`, where it stands in the list of link l
+abbrev pub item_text : ℕ → Listed → List ℕ
+item_text l item = if item.link == l then codes " " ++ prefix_text item.prefix else []
+
+-- `link s only 0.0.0.0/0 10.9.0.0/16`, what link l exchanges beside its own prefixes
+unfoldable pub only_line : Network → ℕ → List ℕ
+only_line n l =
+    line (codes "link " ++ name_of n.links l ++ codes " only" ++ flat_map (item_text l) n.listed)
+
+-- the line of a link and whether it has a list
+abbrev pub line_of_link : Network → ℕ × Bool → List ℕ
+line_of_link n (l, has) = if has then only_line n l else []
+
+abbrev pub only_lines : Network → List ℕ
+only_lines n = flat_map (line_of_link n) (enumerate_from 0 n.lists)
+
 -- the link, or the router, is one of the plan, and so is the link to which a prefix is attached
 abbrev pub IsSeat : Network → Seat → Type 0
 IsSeat n (seats.Link l) = l < length n.links
@@ -148,10 +165,11 @@ seat_text n (seats.Own own) =
 unfoldable pub place_line : Network → Place → List ℕ
 place_line n p = line (codes "prefix " ++ prefix_of n p.prefix ++ seat_text n p.seat)
 
--- a plan: its counts, its interfaces and its places
+-- a plan: its counts, its interfaces, its lists and its places
 abbrev pub shown_plan : Network → Written
 shown_plan n = record {
-  text = (counts_line n ++ interface_lines n) ++ flat_map (place_line n) n.places;
+  text = ((counts_line n ++ interface_lines n) ++ only_lines n)
+      ++ flat_map (place_line n) n.places;
   status = Done;
 }
 

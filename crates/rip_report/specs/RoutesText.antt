@@ -3,9 +3,10 @@ use Rattle.std.specs.Prelude.{◌≡◌, ℕ, ◌⊎◌, ◌==◌, Bool, if◌th
 use Rattle.rip_plan.specs.Network.{Network}
 use Rattle.rip_plan.specs.declared.parts.Interface.{Interface}
 use Rattle.rip_table.specs.State.{State}
-use Rattle.rip_check.specs.Firsts.{AreHeardOf, IsFirstUnheardOf, IsReadable, IsReason}
+use Rattle.rip_check.specs.Firsts.{AreHeardOf, CanBeRead, IsCause, IsFirstUnheardOf}
+use Rattle.rip_check.specs.Networks.{network_at}
 use Rattle.rip_check.specs.Paths.{IsLeast}
-use Rattle.rip_check.specs.Tables.{FitsShown, IsOnlyRoute, Route}
+use Rattle.rip_check.specs.Tables.{FitsThere, IsOnlyRoute, Route}
 use Rattle.rip_check.specs.Told.{told}
 use Rattle.rip_check.specs.Verdicts.{IsHidden}
 use Rattle.rip_check.specs.declared.verdict.Unclear.{Unclear}
@@ -48,9 +49,9 @@ route_of found = record { metric = found.metric; way = found.way }
 -- the route that is read of what router r shows of prefix p, and whether it is that of a leaf which
 -- cannot show it
 pub record IsRead (n : Network) (s : State) (r p : ℕ) (route : Route) (hidden : Bool) : Type 0 where
-  pub fits : FitsShown n (told n s) r p route
-  pub one : IsTrue hidden ⊎ IsOnlyRoute n (told n s) r p route
-  pub hides : Decides hidden (IsHidden n (told n s) r p)
+  pub fits : FitsThere n (told n s) r p route
+  pub one : IsTrue hidden ⊎ IsOnlyRoute (network_at n s.prefixes p) (told n s) r p route
+  pub hides : Decides hidden (IsHidden (network_at n s.prefixes p) (told n s) r p)
 
 -- the router need not show such a route on any link: it has none, or it is that of a leaf which
 -- cannot show it
@@ -62,13 +63,14 @@ IsSilentRoute route hidden = (route.way ≡ Unreachable) ⊎ IsTrue hidden
 -- and an interface of it was not heard, that one
 pub data RouteLine (n : Network) (s : State) (r p : ℕ) : List ℕ → Type 0 where
   a_route : (route : Route) (hidden : Bool) (least : ℕ) → IsRead n s r p route hidden
-      → (IsSilentRoute route hidden → AreHeardOf n s r)
-      → IsLeast n p r least → RouteLine n s r p (read_line n s r p route hidden least)
-  unclear : (trouble : Unclear) → (IsReadable n (told n s) r p → ⊥)
-      → IsReason n (told n s) r p trouble
+      → (IsSilentRoute route hidden → AreHeardOf (network_at n s.prefixes p) s r)
+      → IsLeast (network_at n n.prefixes p) p r least
+      → RouteLine n s r p (read_line n s r p route hidden least)
+  unclear : (trouble : Unclear) → (CanBeRead n (told n s) r p → ⊥)
+      → IsCause n (told n s) r p trouble
       → RouteLine n s r p (unread_line n s r p trouble)
   unheard : (route : Route) (hidden : Bool) (l : ℕ) → IsRead n s r p route hidden
-      → IsSilentRoute route hidden → IsFirstUnheardOf n s r l
+      → IsSilentRoute route hidden → IsFirstUnheardOf (network_at n s.prefixes p) s r l
       → RouteLine n s r p (unread_line n s r p (Missing r p l))
 
 -- the line of the interface of a number, where it was not heard

@@ -4,7 +4,7 @@
 ghost use Rattle.std.specs.Prelude.{◌≡◌, ◌<◌, List, length, slice_index, ℕ};
 ghost use Rattle.rip_plan.specs.Network.{Network};
 ghost use Rattle.rip_table.specs.State.{Fits, State};
-ghost use Rattle.rip_check.specs.Cases.{network_of, state_of};
+ghost use Rattle.rip_check.specs.Cases.{plan_of, state_of};
 ghost use Rattle.rip_report.specs.Listings.{TextsBelow, TextsOf, TextsOfPairs};
 ghost use Rattle.rip_report.specs.Outs.{AddsOne};
 
@@ -60,10 +60,10 @@ pub(crate) trait PairText {
 
     /// Adds the text of a router and the prefix of a case.
     fn add<T: Table, K: Sink>(&self, out: &mut Out<K>, case: &Case<'_, T>, router: usize)
-        requires fits { fits self.now (network_of case.now) (state_of case.now) }
-        requires router { router < length (network_of case.now).routers }
+        requires fits { fits self.now (plan_of case.now) (state_of case.now) }
+        requires router { router < length (plan_of case.now).routers }
         ensures { AddsOne out.old out.new
-            (is_text self.now (network_of case.now) (state_of case.now) router case.now.prefix) };
+            (is_text self.now (plan_of case.now) (state_of case.now) router case.now.prefix) };
 }
 
 /// Adds the texts of a router and each prefix.

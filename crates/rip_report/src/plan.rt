@@ -3,7 +3,7 @@
 ghost use Rattle.std.specs.Prelude.{◌<◌, IfSome, length};
 ghost use Rattle.std.specs.List.{flat_map};
 ghost use Rattle.rip_report.specs.Outs.{Adds};
-ghost use Rattle.rip_report.specs.PlanText.{IsSeat, PlanText, address_part, also_text, attached_text, counts_line, direct_text, gateway_text, interface_line, interface_lines, interface_text, kept_text, place_line, poison_text, seat_text, shown_plan};
+ghost use Rattle.rip_report.specs.PlanText.{IsSeat, PlanText, address_part, also_text, attached_text, counts_line, direct_text, gateway_text, interface_line, interface_lines, interface_text, item_text, kept_text, line_of_link, only_line, only_lines, place_line, poison_text, seat_text, shown_plan};
 ghost use Rattle.rip_report.specs.Runs.{RunsOnPlan};
 
 use crate::names::{push_link, push_router};
@@ -11,7 +11,7 @@ use crate::output::Out;
 use crate::report::{PlanReport, run_plan_report};
 use crate::status::{RunError, Status};
 use rip_log::Sink;
-use rip_plan::{Interface, Place, Plan, Seat};
+use rip_plan::{Interface, Listed, Place, Plan, Seat};
 use rip_wire::Address;
 use std::alloc::{AllocError, Global};
 
@@ -125,6 +125,58 @@ fn push_interfaces<K: Sink>(out: &mut Out<K>, plan: &Plan)
     }
 }
 
+/// Adds an item, after a blank, where it stands in the list of a link.
+fn push_item<K: Sink>(out: &mut Out<K>, link: usize, item: Listed)
+    ensures { Adds out.old out.new (item_text link item) }
+{
+    if item.link == link {
+        out.push(" ");
+        out.push_prefix(item.prefix);
+    }
+}
+
+/// Adds the items of the list of a link.
+fn push_items<K: Sink>(out: &mut Out<K>, link: usize, listed: &[Listed])
+    ensures { Adds out.old out.new (flat_map (item_text link) listed.now) }
+{
+    for item in listed {
+        push_item(out, link, *item);
+    }
+}
+
+/// Adds the line of what a link exchanges.
+#[tactic(auto, unfolding(crate::specs::PlanText::only_line))]
+fn push_only_line<K: Sink>(out: &mut Out<K>, plan: &Plan, link: usize)
+    requires { link < length plan.now.links }
+    ensures { Adds out.old out.new (only_line plan.now link) }
+{
+    out.push("link ");
+    push_link(out, plan, link);
+    out.push(" only");
+    push_items(out, link, plan.listed());
+    out.end();
+}
+
+/// Adds the line of what a link exchanges, if it has a list.
+fn push_only<K: Sink>(out: &mut Out<K>, plan: &Plan, link: usize, has: bool)
+    requires { link < length plan.now.links }
+    ensures { Adds out.old out.new (line_of_link plan.now (link, has)) }
+{
+    if has {
+        push_only_line(out, plan, link);
+    }
+}
+
+/// Adds the lines of what links exchange.
+fn push_lists<K: Sink>(out: &mut Out<K>, plan: &Plan)
+    ensures { Adds out.old out.new (only_lines plan.now) }
+{
+    plan.lawful();
+    for link in 0..plan.links() {
+        push_only(out, plan, link, plan.has_list(link));
+    }
+}
+
 /// Adds that a router keeps a prefix of its own, where the plan says so.
 fn push_kept<K: Sink>(out: &mut Out<K>, kept: bool)
     ensures { Adds out.old out.new (kept_text kept) }
@@ -200,12 +252,13 @@ fn push_places<K: Sink>(out: &mut Out<K>, plan: &Plan)
     }
 }
 
-/// Adds a plan: its counts, its interfaces and its places.
+/// Adds a plan: its counts, its interfaces, its lists and its places.
 fn push_plan<K: Sink>(out: &mut Out<K>, plan: &Plan)
     ensures { Adds out.old out.new (shown_plan plan.now).text }
 {
     push_counts_line(out, plan);
     push_interfaces(out, plan);
+    push_lists(out, plan);
     push_places(out, plan);
 }
 

@@ -2,7 +2,7 @@
 
 ghost use Rattle.std.specs.Prelude.{◌+◌, ◌<◌, ◌==◌, IfNone, IfOk, IfSome, List, ℕ, length};
 ghost use Rattle.rip_plan.specs.Network.{Network};
-ghost use Rattle.rip_check.specs.Cases.{network_of, state_of};
+ghost use Rattle.rip_check.specs.Cases.{network_of, plan_of, state_of};
 ghost use Rattle.rip_report.specs.AnywayText.{AnywayRoutes};
 ghost use Rattle.rip_report.specs.Finished.{AddsWritten};
 ghost use Rattle.rip_report.specs.Given.{IsGiven};
@@ -27,7 +27,7 @@ use crate::names::{push_counts, push_router};
 use crate::output::Out;
 use crate::report::{Report, run_report};
 use crate::status::{RunError, Status};
-use rip_check::{Case, Expected, Route, Unclear, Way, unheard_link};
+use rip_check::{Case, Expected, Route, Unclear, Way};
 use rip_log::{Sink, Source};
 use rip_plan::Plan;
 use rip_table::{Counts, Table};
@@ -47,9 +47,9 @@ fn push_counts_line<T: Table, K: Sink>(out: &mut Out<K>, plan: &Plan, table: &T)
 
 /// Adds a router and the prefix of a case, as `R P `.
 fn push_pair<T: Table, K: Sink>(out: &mut Out<K>, case: &Case<'_, T>, router: usize)
-    requires { router < length (network_of case.now).routers }
+    requires { router < length (plan_of case.now).routers }
     ensures { Adds out.old out.new
-        (pair_part (network_of case.now) (state_of case.now) router case.now.prefix) }
+        (pair_part (plan_of case.now) (state_of case.now) router case.now.prefix) }
 {
     push_router(out, case.plan, router);
     out.push(" ");
@@ -76,10 +76,10 @@ fn push_read_line<T: Table, K: Sink>(
     route: &Route,
     least: Metric,
 )
-    requires router { router < length (network_of case.now).routers }
-    requires way { IsKnownWay (network_of case.now) route.now.way }
+    requires router { router < length (plan_of case.now).routers }
+    requires way { IsKnownWay (plan_of case.now) route.now.way }
     ensures { Adds out.old out.new
-        (read_line (network_of case.now) (state_of case.now) router case.now.prefix
+        (read_line (plan_of case.now) (state_of case.now) router case.now.prefix
         (route_of route.now) route.now.hidden least) }
 {
     push_pair(out, case, router);
@@ -96,10 +96,10 @@ fn push_unread_line<T: Table, K: Sink>(
     router: usize,
     trouble: &Unclear,
 )
-    requires router { router < length (network_of case.now).routers }
-    requires known { IsKnownReason (network_of case.now) trouble.now }
+    requires router { router < length (plan_of case.now).routers }
+    requires known { IsKnownReason (plan_of case.now) trouble.now }
     ensures { Adds out.old out.new
-        (unread_line (network_of case.now) (state_of case.now) router case.now.prefix
+        (unread_line (plan_of case.now) (state_of case.now) router case.now.prefix
         trouble.now) }
 {
     push_pair(out, case, router);
@@ -111,14 +111,14 @@ fn push_unread_line<T: Table, K: Sink>(
 /// The link on which the router might show more than this route: it need not show such a route, and
 /// its interface there was not heard.
 fn unheard_behind<T: Table>(case: &Case<'_, T>, router: usize, found: &Route) -> Option<usize>
-    requires { router < length (network_of case.now).routers }
+    requires { router < length (plan_of case.now).routers }
     ensures some { IfSome result (λ l. IsSilentRoute (route_of found.now) found.now.hidden
         × IsFirstUnheardOf (network_of case.now) (state_of case.now) router l) }
     ensures none { IfNone result (IsSilentRoute (route_of found.now) found.now.hidden →
         AreHeardOf (network_of case.now) (state_of case.now) router) }
 {
     if found.hidden || found.way == Way::Unreachable {
-        unheard_link(case.plan, case.table, router)
+        case.unheard_link(router)
     } else {
         None
     }
@@ -132,12 +132,12 @@ fn add_found<T: Table, K: Sink>(
     router: usize,
     found: &Route,
 )
-    requires expected { AreExpected (network_of case.now) expected.now }
-    requires router { router < length (network_of case.now).routers }
-    requires read { IsRead (network_of case.now) (state_of case.now) router case.now.prefix
+    requires expected { AreExpected (plan_of case.now) expected.now }
+    requires router { router < length (plan_of case.now).routers }
+    requires read { IsRead (plan_of case.now) (state_of case.now) router case.now.prefix
         (route_of found.now) found.now.hidden }
     ensures { AddsOne out.old out.new
-        (RouteLine (network_of case.now) (state_of case.now) router case.now.prefix) }
+        (RouteLine (plan_of case.now) (state_of case.now) router case.now.prefix) }
 {
     case.plan.lawful();
     let prefix = case.prefix;

@@ -1,7 +1,7 @@
 //! The lines under a verdict.
 
 ghost use Rattle.std.specs.Prelude.{◌+◌, ◌<◌, length};
-ghost use Rattle.rip_check.specs.Cases.{network_of, state_of};
+ghost use Rattle.rip_check.specs.Cases.{plan_of, state_of};
 ghost use Rattle.rip_report.specs.ExplainText.{direct_line, heard_line, least_line, none_heard_line, offer_line, read_route_line, shown_line, shown_word, sum_part, unplanned_part, unreachable_line};
 ghost use Rattle.rip_report.specs.Names.{IsKnownWay};
 ghost use Rattle.rip_report.specs.Outs.{Adds};
@@ -165,9 +165,9 @@ pub(crate) fn push_unreachable_line<T: Table, K: Sink>(
     case: &Case<'_, T>,
     router: usize,
 )
-    requires { router < length (network_of case.now).routers }
+    requires { router < length (plan_of case.now).routers }
     ensures { Adds out.old out.new
-        (unreachable_line (network_of case.now) (state_of case.now) router case.now.prefix) }
+        (unreachable_line (plan_of case.now) (state_of case.now) router case.now.prefix) }
 {
     out.push("  unreachable: router ");
     push_router(out, case.plan, router);

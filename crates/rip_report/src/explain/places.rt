@@ -4,9 +4,10 @@ ghost use Rattle.std.specs.Prelude.{◌<◌, Some, length, ℕ};
 ghost use Rattle.rip_table.specs.State.{Fits};
 ghost use Rattle.rip_check.specs.Expected.{AreExpected};
 ghost use Rattle.rip_check.specs.Marks.{AreUnsettled};
+ghost use Rattle.rip_check.specs.Networks.{network_at};
 ghost use Rattle.rip_check.specs.Paths.{IsLeast};
 ghost use Rattle.rip_check.specs.Told.{told};
-ghost use Rattle.rip_check.specs.Cases.{network_of, state_of};
+ghost use Rattle.rip_check.specs.Cases.{block_of, plan_of, state_of};
 ghost use Rattle.rip_report.specs.AuditText.{AreKnown, FailingText};
 ghost use Rattle.rip_report.specs.ExplainText.{DirectLine, OfferLine, OfferLines, OffersOver, PlaceLines, ShownLine, ShownLines};
 ghost use Rattle.rip_report.specs.Outs.{AddsOne};
@@ -30,10 +31,10 @@ struct Shown<'a, T: Table> {
 }
 
 impl<T: Table> NumberText for Shown<'_, T> {
-    ghost is_for = { λ texts i. i < length (network_of texts.case.now).interfaces };
+    ghost is_for = { λ texts i. i < length (plan_of texts.case.now).interfaces };
 
     ghost is_text = { λ texts i.
-        ShownLine (network_of texts.case.now) (state_of texts.case.now) texts.case.now.prefix i };
+        ShownLine (plan_of texts.case.now) (state_of texts.case.now) texts.case.now.prefix i };
 
     fn add<K: Sink>(&self, out: &mut Out<K>, number: usize) {
         let plan = self.case.plan;
@@ -46,9 +47,9 @@ impl<T: Table> NumberText for Shown<'_, T> {
 
 /// Adds what each interface of a router shows of the prefix.
 pub(crate) fn add_shown<T: Table, K: Sink>(out: &mut Out<K>, case: &Case<'_, T>, router: usize)
-    requires { router < length (network_of case.now).routers }
+    requires { router < length (plan_of case.now).routers }
     ensures { AddsOne out.old out.new
-        (ShownLines (network_of case.now) (state_of case.now) router case.now.prefix) }
+        (ShownLines (plan_of case.now) (state_of case.now) router case.now.prefix) }
 {
     let numbers = case.plan.of_router(router);
     add_listed(out, &Shown { case }, numbers);
@@ -63,13 +64,14 @@ struct OfferTo<'a, T: Table> {
 }
 
 impl<T: Table> NumberText for OfferTo<'_, T> {
-    ghost use Rattle.rip_plan.specs.Relations.{HasCost, IsInterface};
+    ghost use Rattle.rip_plan.specs.Relations.{Exchanges, HasCost, IsInterface};
 
     ghost is_for = { λ texts j.
-        HasCost (network_of texts.case.now) texts.own.router texts.own.link texts.own.cost
-        × ((r c : ℕ) × IsInterface (network_of texts.case.now) j r texts.own.link c) };
+        Exchanges (plan_of texts.case.now) texts.own.link (block_of texts.case.now)
+        × HasCost (plan_of texts.case.now) texts.own.router texts.own.link texts.own.cost
+        × ((r c : ℕ) × IsInterface (plan_of texts.case.now) j r texts.own.link c) };
 
-    ghost is_text = { λ texts j. OfferLine (network_of texts.case.now) (state_of texts.case.now)
+    ghost is_text = { λ texts j. OfferLine (plan_of texts.case.now) (state_of texts.case.now)
         texts.own texts.case.now.prefix j };
 
     fn add<K: Sink>(&self, out: &mut Out<K>, number: usize) {
@@ -91,25 +93,27 @@ struct OffersOverLink<'a, T: Table> {
 }
 
 impl<T: Table> NumberText for OffersOverLink<'_, T> {
-    ghost is_for = { λ texts i. i < length (network_of texts.case.now).interfaces };
+    ghost is_for = { λ texts i. i < length (plan_of texts.case.now).interfaces };
 
     ghost is_text = { λ texts i.
-        OffersOver (network_of texts.case.now) (state_of texts.case.now) texts.case.now.prefix i };
+        OffersOver (plan_of texts.case.now) (state_of texts.case.now) texts.case.now.prefix i };
 
     fn add<K: Sink>(&self, out: &mut Out<K>, number: usize) {
         let case = self.case;
         case.plan.lawful();
         let own = case.plan.interface(number);
-        let numbers = case.plan.on_link(own.link);
-        add_listed(out, &OfferTo { case, own }, numbers);
+        if case.exchanges(own.link) {
+            let numbers = case.plan.on_link(own.link);
+            add_listed(out, &OfferTo { case, own }, numbers);
+        }
     }
 }
 
 /// Adds all that is offered to a router.
 pub(crate) fn add_offers<T: Table, K: Sink>(out: &mut Out<K>, case: &Case<'_, T>, router: usize)
-    requires { router < length (network_of case.now).routers }
+    requires { router < length (plan_of case.now).routers }
     ensures { AddsOne out.old out.new
-        (OfferLines (network_of case.now) (state_of case.now) router case.now.prefix) }
+        (OfferLines (plan_of case.now) (state_of case.now) router case.now.prefix) }
 {
     let numbers = case.plan.of_router(router);
     add_listed(out, &OffersOverLink { case }, numbers);
@@ -135,7 +139,8 @@ pub(crate) fn add_place<T: Table, K: Sink>(
 )
     requires fits { Fits plan.now (T.state table.now) }
     requires place { AreKnown plan.now (T.state table.now) place.now }
-    requires least { IsLeast plan.now place.now.prefix place.now.router least }
+    requires least { IsLeast (network_at plan.now plan.now.prefixes place.now.prefix)
+        place.now.prefix place.now.router least }
     ensures { AddsOne out.old out.new (PlaceLines plan.now (T.state table.now) place.now) }
 {
     let case = Case::new(plan, table, place.prefix);

@@ -9,6 +9,7 @@ ghost use Rattle.rip_check.specs.Marks.{AreWrong};
 ghost use Rattle.rip_check.specs.OwnSettled.{AreRightTables};
 ghost use Rattle.rip_check.specs.OwnTells.{IsToldBy};
 ghost use Rattle.rip_check.specs.OwnVerdicts.{IsOwnVerdict};
+ghost use Rattle.rip_check.specs.Networks.{network_at};
 ghost use Rattle.rip_check.specs.Paths.{IsLeast};
 ghost use Rattle.rip_report.specs.Finished.{AddsWritten};
 ghost use Rattle.rip_report.specs.Given.{IsGiven};
@@ -48,7 +49,8 @@ fn add_own_place<T: Table, G: RouteTables, K: Sink>(
     requires own { FitsOwn plan.now (G.tables tables.now) }
     requires told { IsToldBy plan.now (G.tables tables.now) (T.state table.now) }
     requires place { IsKnownOwn plan.now (T.state table.now) place.now }
-    requires least { IsLeast plan.now place.now.prefix place.now.router least }
+    requires least { IsLeast (network_at plan.now plan.now.prefixes place.now.prefix)
+        place.now.prefix place.now.router least }
     ensures { AddsOne out.old out.new
         (OwnPlaceLines plan.now (G.tables tables.now) (T.state table.now) place.now) }
 {

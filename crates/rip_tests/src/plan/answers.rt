@@ -1,5 +1,7 @@
 //! What a plan answers: one that says all that daemons do, and which router is where.
 
+ghost use Rattle.std.specs.Prelude.{◌<◌, length};
+
 use crate::examples::TRIANGLE;
 use crate::fixtures::plan_of;
 use rip_plan::{Plan, Seat};
@@ -93,4 +95,45 @@ fn names_and_links(rt: HostRuntime) {
     let plan = plan_of(&rt, rt.alloc(), TRIANGLE);
     expect_named(&rt, &plan);
     expect_links(&rt, &plan);
+}
+
+/// A hub that tells a branch the default route alone.
+const HUB: &str = "version = 1
+[[link]]
+name = \"c\"
+prefixes = [\"10.1.0.0/16\"]
+[[link]]
+name = \"s\"
+prefixes = [\"10.2.0.0/16\"]
+only = [\"0.0.0.0/0\", \"10.8.0.0/16\"]
+[[link]]
+name = \"t\"
+prefixes = []
+only = []
+[[router]]
+name = \"hub\"
+interface = [{ link = \"c\", address = \"10.1.0.1\" }, { link = \"s\", address = \"10.2.0.1\" }]
+";
+
+/// Whether routers of a plan exchange a prefix over a link.
+fn exchanges(rt: &impl Abort, plan: &Plan, link: usize, text: &str) -> bool
+    requires { link < length plan.now.links }
+{
+    plan.exchanges(link, Prefix::parse(text).expect(rt, "a prefix"))
+}
+
+#[test]
+fn what_links_exchange(rt: HostRuntime) {
+    let plan = plan_of(&rt, rt.alloc(), HUB);
+    assert!(rt; plan.links() == 3 && plan.has_lists());
+    assert!(rt; !plan.has_list(0) && plan.has_list(1) && plan.has_list(2));
+    assert!(rt; exchanges(&rt, &plan, 0, "10.9.0.0/16"));
+    assert!(rt; exchanges(&rt, &plan, 1, "10.8.0.0/16") && exchanges(&rt, &plan, 1, "10.2.0.0/16"));
+    assert!(rt;
+        !exchanges(&rt, &plan, 1, "10.9.0.0/16") && !exchanges(&rt, &plan, 1, "10.8.1.0/24")
+    );
+    assert!(rt; !exchanges(&rt, &plan, 2, "0.0.0.0/0"));
+    assert!(rt; plan.listed().len() == 2);
+    let triangle = plan_of(&rt, rt.alloc(), TRIANGLE);
+    assert!(rt; !triangle.has_lists());
 }

@@ -1,7 +1,8 @@
 use Rattle.std.proofs.Common.{◌≡◌, ℕ, ◌<◌, Bool, true, false, not, Option, Some, None, IfSome, IfNone, is_some, below_more, length, refl, sym, ap, subst, ◌∙◌, arith}
+use Rattle.rip_check.specs.Tables.{FitsThere}
 use Rattle.rip_check.specs.Verdicts.{IsSound, route_of}
-use Rattle.rip_check.proofs.CaseLemmas.{in_range_told}
-use Rattle.rip_check.proofs.ReadableLemmas.{fits_readable, one_sound, one_fails}
+use Rattle.rip_check.proofs.CaseLemmas.{in_range_plan}
+use Rattle.rip_check.proofs.ReadableLemmas.{one_fails, one_sound, route_readable}
 use Rattle.rip_check.proofs.FirstPlaceLemmas.{so_far_on, so_far_first, all_so_far, IsFirstSoFar}
 use Rattle.rip_check.proofs.audit.first_failing.Goals as goal
 use Rattle.rip_check.proofs.audit.first_failing.Goals.{then-is_none+then-router-below+then-is_some, else-is_none, else-is_none-via-then-is_none+then-router-below+else-is_some, else-is_none-via-then-is_none+else-router-below, else-is_none-via-else-is_none}
@@ -27,16 +28,16 @@ loop-router-preserved g c =
     let n = c.args.case.now.plan.now in
     let plan = c.lawful.ensures in
     let shown = (told_in c.args.case.now) in
-    let range = (in_range_told c.args.case.now) in
+    let range = (in_range_plan c.args.case.now) in
     let r = c.loop-router.router in
     let p = c.args.case.now.prefix in
     let Fine : ℕ → Type 0 = λ s. IsSound n shown s p in
     let known : r < length n.routers = omega (arith, c.loop-router-test.true, c.loop-router.auto.router-end, c.routers-router-end.ensures) in
     let t = route_of c.in-Some.route in
-    let fits = c.in-Some.ensures.some.fits in
+    let fits : FitsThere n shown r p t = record { quiet = c.in-Some.ensures.quiet; fits = c.in-Some.ensures.some.fits } in
     let was = c.loop-router.invariant.failing in
     record {
-      readable = below_more _ _ c.loop-router.invariant.readable (fits_readable n plan shown range r p t known fits);
+      readable = below_more _ _ c.loop-router.invariant.readable (route_readable n plan shown range r p t known fits);
       failing = elim c.if-is_none.branch [
         | then-is_none+then-router-below+then-is_some w ↦
             let none = is_nothing c.loop-router.first c.is_none.result c.is_none.ensures w.if-is_none.true in

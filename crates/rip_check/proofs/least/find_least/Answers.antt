@@ -4,8 +4,9 @@ use Rattle.std.proofs.Math.ListN.{replicate}
 use Rattle.std.proofs.lemmas.List.{get_or-replicate, length-replicate}
 use Rattle.std.proofs.lemmas.Option.{get_or_from_slice_get, slice_get_within}
 use Rattle.rip_plan.specs.Relations.{IsDirect}
-use Rattle.rip_check.specs.Failures.{network_left}
-use Rattle.rip_check.proofs.LeftLemmas.{left_routers, left_sound, was_direct}
+use Rattle.rip_check.specs.Failures.{left_to}
+use Rattle.rip_check.proofs.LeftLemmas.{direct_own, left_routers, sound_left, was_direct}
+use Rattle.rip_plan.proofs.PrefixNetworkLemmas.{plan_network}
 use Rattle.rip_check.proofs.PlanLemmas.{direct_least}
 use Rattle.rip_check.proofs.TellingLemmas.{IsReached, settled_all, settled_least, settled_more, telling_reached, told_more}
 use Rattle.rip_check.proofs.least.find_least.Goals as goal
@@ -21,7 +22,7 @@ loop-metric-init c =
     let n = c.args.plan.now in
     let f = c.args.failure in
     let p = c.args.prefix in
-    let left = network_left n f in
+    let left = left_to n f p in
     let xs = c.fill_direct.new.metrics in
     let within : (r : ℕ) → r < length left.routers → r < length xs = λ r lt. omega (arith, lt, left_routers n f, c.requires, c.fill_direct.auto.metrics) in
     let reached : (r v : ℕ) → v ≤ 16 → (v ≡ 16) ⊎ IsDirect left r p v → IsReached left p r v =
@@ -32,16 +33,16 @@ loop-metric-init c =
         | inr big ↦ inl (omega (arith, big, most))
       ]
     ] in
-    let low : (r v : ℕ) → (v ≡ 16) ⊎ IsDirect left r p v → v < 1 → ⊥ =
-    λ r v chosen small. elim chosen [
+    let low : (r v : ℕ) → r < length n.routers → (v ≡ 16) ⊎ IsDirect left r p v → v < 1 → ⊥ =
+    λ r v lt chosen small. elim chosen [
       | inl e ↦ omega (arith, e, small)
-      | inr direct ↦ omega (arith, direct_least n c.lawful.ensures r p v (was_direct n f r p v direct).0, small)
+      | inr direct ↦ omega (arith, direct_least n (plan_network n c.lawful.ensures) r p v (was_direct n f r p v (direct_own n c.lawful.ensures f p r v lt direct)).0, small)
     ] in
     record {
       reached = λ r lt. reached r (get_or xs r 0) (c.fill_direct.ensures.most r) (c.fill_direct.ensures.chosen r (within r lt));
       direct = c.fill_direct.ensures.least;
       told = λ l e. absurd (no_mark 512 l e);
-      settled = λ r lt small. absurd (low r (get_or xs r 0) (c.fill_direct.ensures.chosen r (within r lt)) small);
+      settled = λ r lt small. absurd (low r (get_or xs r 0) (omega (arith, lt, left_routers n f)) (c.fill_direct.ensures.chosen r (within r lt)) small);
     }
 
 pub loop-metric-preserved : goal.loop-metric-preserved
@@ -50,8 +51,8 @@ loop-metric-preserved c =
     let f = c.args.failure in
     let p = c.args.prefix in
     let m = c.loop-metric.metric in
-    let left = network_left n f in
-    let sound = left_sound n c.lawful.ensures f in
+    let left = left_to n f p in
+    let sound = sound_left n c.lawful.ensures f p in
     let xs = c.loop-metric.metrics in
     let ys = c.tell_metric.new.metrics in
     let was = c.loop-metric.invariant in
@@ -69,8 +70,9 @@ pub returns-after-loop-metric : goal.returns-after-loop-metric
 returns-after-loop-metric c = λ r lt.
     let n = c.args.plan.now in
     let f = c.args.failure in
+    let p = c.args.prefix in
     let is : c.loop-metric.metric ≡ 16 = omega (arith, c.loop-metric-test.false, c.loop-metric.auto.metric-end) in
-    settled_least (network_left n f) c.args.prefix (left_sound n c.lawful.ensures f) c.loop-metric.metrics (rw is at c.loop-metric.invariant.settled)
+    settled_least (left_to n f p) p (sound_left n c.lawful.ensures f p) c.loop-metric.metrics (rw is at c.loop-metric.invariant.settled)
     c.loop-metric.invariant.reached c.loop-metric.invariant.direct r (omega (arith, lt, left_routers n f))
 
 pub returns-then-not-has_more : goal.returns-then-not-has_more
@@ -79,8 +81,8 @@ returns-then-not-has_more c = λ r lt.
     let f = c.args.failure in
     let p = c.args.prefix in
     let m = c.loop-metric.metric in
-    let left = network_left n f in
-    let sound = left_sound n c.lawful.ensures f in
+    let left = left_to n f p in
+    let sound = sound_left n c.lawful.ensures f p in
     let xs = c.loop-metric.metrics in
     let ys = c.tell_metric.new.metrics in
     let was = c.loop-metric.invariant in

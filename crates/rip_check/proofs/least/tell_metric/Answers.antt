@@ -1,8 +1,8 @@
 use Rattle.std.proofs.Common.{◌≡◌, get_or, inl, inr, sym, ◌∙◌, arith}
 use Rattle.std.proofs.lemmas.Bool.{cases_lt}
-use Rattle.rip_check.specs.Failures.{network_left}
+use Rattle.rip_check.specs.Failures.{left_to}
 use Rattle.rip_check.specs.Tellings.{AreTold, IsTelling}
-use Rattle.rip_check.proofs.LeftLemmas.{left_sound}
+use Rattle.rip_check.proofs.LeftLemmas.{sound_left}
 use Rattle.rip_check.proofs.TellingLemmas.{telling_then, telling_was}
 use Rattle.rip_check.proofs.least.tell_metric.Goals as goal
 use Rattle.rip_check.proofs.least.tell_metric.Goals.{then-from-metric, else-from-metric}
@@ -13,8 +13,8 @@ loop-router-preserved c =
     let f = c.args.failure in
     let p = c.args.prefix in
     let m = c.args.metric in
-    let left = network_left n f in
-    let sound = left_sound n c.lawful.ensures f in
+    let left = left_to n f p in
+    let sound = sound_left n c.lawful.ensures f p in
     let start = c.args.metrics.now in
     let xs = c.loop-router.metrics in
     let i = c.loop-router.router in

@@ -1,21 +1,19 @@
-use Rattle.std.proofs.Common.{◌≤◌, length, arith}
-use Rattle.rip_check.specs.TwoLeasts.{shown_of}
-use Rattle.rip_check.proofs.StepLemmas.{reached}
+use Rattle.std.proofs.Common.{◌≡◌, inl, refl, arith}
+use Rattle.std.proofs.lemmas.Bool.{both_ways}
+use Rattle.rip_check.specs.Cases.{block_of, told_in}
+use Rattle.rip_check.proofs.ClosedLemmas.{open_link}
 use Rattle.rip_check.proofs.links.fill.Goals as goal
-use Rattle.rip_check.specs.Cases.{told_in}
 
-pub loop-i-init : goal.loop-i-init
-loop-i-init g c = record { size = c.reset.auto.links; two = c.reset.ensures c.args.case.now.plan.now (shown_of (told_in c.args.case.now) c.args.case.now.prefix) }
-
-pub loop-i-preserved : goal.loop-i-preserved
-loop-i-preserved g c =
+pub returns-else-has_lists : goal.returns-else-has_lists
+returns-else-has_lists g c =
+    let case = c.args.case.now in
     record {
-      size = omega (arith, c.add_interface.auto.links, c.loop-i.invariant.size);
-      two = c.add_interface.ensures (shown_of (told_in c.args.case.now) c.args.case.now.prefix) (λ s l d its. c.seen_at-metric.ensures.value) c.loop-i.invariant.two;
+      size = omega (arith, c.requires, c.fill_all.auto.links);
+      each = λ l two lt e. open_link case.plan.now (told_in case) case.prefix l two c.lawful.ensures.plan (inl (λ has. both_ways _ c.if-has_lists.false (c.has_lists.ensures.1 (l, has)))) (c.fill_all.ensures.free l two e) (c.fill_all.ensures.least l two e);
     }
 
-pub returns : goal.returns
-returns g c = λ l two e.
-    let is = c.loop-i.invariant.two l two e in
-    let big : length c.args.case.now.plan.now.interfaces ≤ c.loop-i.i = omega (arith, c.loop-i-test.false) in
-    reached c.args.case.now.plan.now (shown_of (told_in c.args.case.now) c.args.case.now.prefix) l c.loop-i.i two big is
+pub returns-then-has_lists : goal.returns-then-has_lists
+returns-then-has_lists g c =
+    let case = c.args.case.now in
+    let same : block_of case ≡ c.prefix.result = rw c.prefix.ensures refl in
+    c.close.ensures (told_in case) case.prefix same c.fill_all.ensures.free c.fill_all.ensures.least

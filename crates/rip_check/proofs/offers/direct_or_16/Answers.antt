@@ -1,12 +1,13 @@
 use Rattle.std.proofs.Common.{◌≡◌, inr, Some, refl, arith}
 use Rattle.rip_plan.specs.Relations.{IsDirect}
+use Rattle.rip_plan.proofs.PrefixNetworkLemmas.{plan_network}
 use Rattle.rip_check.proofs.PlanLemmas.{direct_most}
 use Rattle.rip_check.proofs.offers.direct_or_16.Goals as goal
 
 pub returns-in-Some-clause-most : goal.returns-in-Some-clause-most
 returns-in-Some-clause-most c =
     let d = (c.in-Some.ensures c.in-Some.cost).0 refl in
-    omega (arith, direct_most c.args.plan.now c.lawful.ensures c.args.router c.args.prefix c.in-Some.cost d, c.from.ensures)
+    omega (arith, direct_most c.args.plan.now (plan_network c.args.plan.now c.lawful.ensures) c.args.router c.args.prefix c.in-Some.cost d, c.from.ensures)
 
 pub returns-in-Some-clause-chosen : goal.returns-in-Some-clause-chosen
 returns-in-Some-clause-chosen c =

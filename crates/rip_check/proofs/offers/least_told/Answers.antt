@@ -4,6 +4,12 @@ use Rattle.rip_check.proofs.AcrossLemmas.{IsFor, told_below, told_seen}
 use Rattle.rip_check.proofs.offers.least_told.Goals as goal
 use Rattle.rip_check.proofs.offers.least_told.Goals.{then-own-from, else-own-from}
 
+pub returns-clause-nothing : goal.returns-clause-nothing
+returns-clause-nothing c = λ least next. elim c.if-own-from.branch [
+  | then-own-from w ↦ omega (arith, next, w.shown-is, c.requires.most, c.from-2.ensures, c.from-3.ensures, c.min.ensures)
+  | else-own-from w ↦ omega (arith, least, w.shown-is, c.requires.most, c.from-2.ensures, c.from-3.ensures, c.min.ensures)
+]
+
 pub returns-clause-least : goal.returns-clause-least
 returns-clause-least c = λ n seen j s v is has other.
     let for : IsFor c.args.two c.args.own.router c.if-own-from.shown = elim c.if-own-from.branch [

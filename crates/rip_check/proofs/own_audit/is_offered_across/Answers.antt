@@ -1,15 +1,16 @@
 use Rattle.std.proofs.Common.{◌≡◌, ◌+◌, inl, inr, get_or, unwrap_or, refl, ◌∙◌, arith}
 use Rattle.std.proofs.lemmas.Bool.{cases_lt}
 use Rattle.std.proofs.lemmas.Bool.Decides.{not_from_Decides}
-use Rattle.rip_check.specs.Cases.{told_in}
+use Rattle.rip_check.specs.Cases.{block_of, network_of, told_in}
 use Rattle.rip_check.specs.Metrics.{metric_at}
 use Rattle.rip_check.proofs.AcrossLemmas.{across_number, across_own, across_place}
-use Rattle.rip_check.proofs.HopLemmas.{OffersAt, from_offer, hop_router, to_offer}
+use Rattle.rip_check.proofs.HopLemmas.{OffersAt, from_offer, hop_router, hop_stays, hop_was, to_offer}
+use Rattle.rip_check.proofs.NetLemmas.{its_cost, open_interface}
 use Rattle.rip_check.proofs.own_audit.is_offered_across.Goals as goal
 use Rattle.rip_check.proofs.own_audit.is_offered_across.Goals.{then-across-own+then-has_hop_at+else-offer-metric, else-across-own, else-across-own-via-then-across-own+else-has_hop_at, else-across-own-via-else-across-own}
 
 pub on_link-numbers-requires : goal.on_link-numbers-requires
-on_link-numbers-requires g c = c.lawful.ensures.link_known c.requires.0 c.args.own.router c.args.own.link c.args.own.cost c.requires.1
+on_link-numbers-requires g c = c.lawful.ensures.network.link_known c.requires.own.0 c.args.own.router c.args.own.link c.args.own.cost c.requires.own.1
 
 pub interface-across-requires : goal.interface-across-requires
 interface-across-requires g c = across_number c.args.case.now.plan.now c.args.own.link c.on_link-numbers.result.now c.on_link-numbers.ensures.exact c.loop-j.j-index c.loop-j-test.true
@@ -22,10 +23,13 @@ seen_at-requires g c = across_number c.args.case.now.plan.now c.args.own.link c.
 
 pub returns-then-offer-metric : goal.returns-then-offer-metric
 returns-then-offer-metric g c =
-    let n = c.args.case.now.plan.now in
-    let told = told_in c.args.case.now in
+    let case = c.args.case.now in
+    let n = case.plan.now in
+    let b = block_of case in
+    let told = told_in case in
     let own = c.args.own in
-    let p = c.args.case.now.prefix in
+    let there = (its_cost n c.lawful.ensures.plan b own.router own.link own.cost c.requires.router c.requires.own).1 in
+    let p = case.prefix in
     let a = c.args.address in
     let m = c.args.metric in
     let numbers = c.on_link-numbers.result.now in
@@ -34,20 +38,23 @@ returns-then-offer-metric g c =
     let x = c.interface-across.result in
     let its = across_own n own.link numbers exact c.loop-j.j-index x c.loop-j-test.true c.interface-across.ensures.is in
     let heard : own.cost + unwrap_or (metric_at told j p) 16 ≡ c.from.result + c.seen_at.result = rw (c.from.ensures, c.seen_at.ensures.value) refl in
-    let at : OffersAt n told own.router own.link p a m own.cost j x.router = record {
+    let at : OffersAt (network_of case) told own.router own.link p a m own.cost j x.router = record {
       other = c.if-across-own.true;
-      has = (c.has_hop_at.ensures x.router own.link x.cost its).0 c.if-has_hop_at.true;
+      has = hop_stays n c.lawful.ensures.plan b j x.router own.link p a there ((c.has_hop_at.ensures x.router own.link x.cost its).0 c.if-has_hop_at.true);
       value = omega (arith, heard, c.min-offer.ensures, c.if-offer-metric.true);
     } in
-    let offer = to_offer n told own.router own.link p a m own.cost c.lawful.ensures c.requires j x.router at in
+    let offer = to_offer (network_of case) told own.router own.link p a m own.cost c.lawful.ensures.network c.requires.own j x.router at in
     (λ t. (x.router, offer.0, offer.1), λ h. refl)
 
 pub loop-j-preserved : goal.loop-j-preserved
 loop-j-preserved g c = λ k s lt at.
-    let n = c.args.case.now.plan.now in
-    let told = told_in c.args.case.now in
+    let case = c.args.case.now in
+    let n = case.plan.now in
+    let b = block_of case in
+    let told = told_in case in
     let own = c.args.own in
-    let p = c.args.case.now.prefix in
+    let there = (its_cost n c.lawful.ensures.plan b own.router own.link own.cost c.requires.router c.requires.own).1 in
+    let p = case.prefix in
     let a = c.args.address in
     let m = c.args.metric in
     let numbers = c.on_link-numbers.result.now in
@@ -59,15 +66,16 @@ loop-j-preserved g c = λ k s lt at.
       | inl less ↦ c.loop-j.invariant k s less at
       | inr big ↦
           let e : k ≡ c.loop-j.j-index = omega (arith, lt, big) in
-          let here : OffersAt n told own.router own.link p a m own.cost j s = rw e at at in
-          let who : s ≡ x.router = hop_router n j x.router s own.link own.link p a x.cost its here.has in
+          let here : OffersAt (network_of case) told own.router own.link p a m own.cost j s = rw e at at in
+          let has = hop_was n c.lawful.ensures.plan b j s own.link p a there here.has in
+          let who : s ≡ x.router = hop_router n j x.router s own.link own.link p a x.cost its has in
           elim c.if-across-own.branch [
             | then-across-own+then-has_hop_at+else-offer-metric w ↦
                 let heard : own.cost + unwrap_or (metric_at told j p) 16 ≡ w.from.result + w.seen_at.result = rw (w.from.ensures, w.seen_at.ensures.value) refl in
                 w.if-offer-metric.false (omega (arith, heard, w.min-offer.ensures, here.value))
             | else-across-own w ↦ elim w.else-across-own.branch [
               | else-across-own-via-then-across-own+else-has_hop_at w' ↦
-                  not_from_Decides _ (w'.has_hop_at.ensures x.router own.link x.cost its) w'.if-has_hop_at.false (rw who at here.has)
+                  not_from_Decides _ (w'.has_hop_at.ensures x.router own.link x.cost its) w'.if-has_hop_at.false (rw who at has)
               | else-across-own-via-else-across-own w' ↦ here.other (who ∙ w'.if-across-own.false)
             ]
           ]
@@ -77,12 +85,16 @@ pub returns : goal.returns
 returns g c = (
   λ t. cc t,
   λ h.
-      let n = c.args.case.now.plan.now in
-      let told = told_in c.args.case.now in
+      let case = c.args.case.now in
+      let n = case.plan.now in
+      let b = block_of case in
+      let told = told_in case in
       let own = c.args.own in
-      let p = c.args.case.now.prefix in
-      let at = from_offer n told own.router own.link p c.args.address c.args.metric own.cost c.lawful.ensures c.requires h.0 h.1 h.2 in
-      let place = across_place n own.link c.on_link-numbers.result.now c.on_link-numbers.ensures.exact h.2.interface h.0 h.2.its_cost h.2.there in
-      let here : OffersAt n told own.router own.link p c.args.address c.args.metric own.cost (get_or c.on_link-numbers.result.now place.0 0) h.0 = rw place.2 at in
+      let p = case.prefix in
+      let there = (its_cost n c.lawful.ensures.plan b own.router own.link own.cost c.requires.router c.requires.own).1 in
+      let at = from_offer (network_of case) told own.router own.link p c.args.address c.args.metric own.cost c.lawful.ensures.network c.requires.own h.0 h.1 h.2 in
+      let across = open_interface n c.lawful.ensures.plan b h.2.interface h.0 own.link h.2.its_cost there h.2.there in
+      let place = across_place n own.link c.on_link-numbers.result.now c.on_link-numbers.ensures.exact h.2.interface h.0 h.2.its_cost across in
+      let here : OffersAt (network_of case) told own.router own.link p c.args.address c.args.metric own.cost (get_or c.on_link-numbers.result.now place.0 0) h.0 = rw place.2 at in
       absurd (c.loop-j.invariant place.0 h.0 (omega (arith, place.1, c.loop-j-test.false)) here),
 )

@@ -1,5 +1,8 @@
-use Rattle.std.proofs.Common.{refl}
-use Rattle.rip_check.specs.Cases.{network_of, state_of}
+use Rattle.std.proofs.Common.{List, refl, subst}
+use Rattle.rip_wire.specs.Prefix.{Block}
+use Rattle.rip_check.specs.Cases.{network_of, plan_of, state_of}
+use Rattle.rip_check.specs.Networks.{network_at}
+use Rattle.rip_check.specs.OwnSettled.{OwnHolds}
 use Rattle.rip_routes.specs.OwnTables.{route_at}
 use Rattle.rip_check.specs.OwnVerdicts.{IsWrong}
 use Rattle.rip_check.proofs.OwnWrongLemmas.{told_unheard}
@@ -7,7 +10,7 @@ use Rattle.rip_check.proofs.own_audit.own_place.Goals as goal
 
 pub returns-in-Some-clause-some : goal.returns-in-Some-clause-some
 returns-in-Some-clause-some g c =
-    let n = network_of c.args.case.now in
+    let n = plan_of c.args.case.now in
     let state = state_of c.args.case.now in
     let t = g.G.RouteTables.tables c.args.tables.now in
     let same = told_unheard n state c.requires.told.unheard in
@@ -16,7 +19,11 @@ returns-in-Some-clause-some g c =
 
 pub returns-in-None-clause-none : goal.returns-in-None-clause-none
 returns-in-None-clause-none g c =
-    let n = network_of c.args.case.now in
+    let n = plan_of c.args.case.now in
     let state = state_of c.args.case.now in
+    let t = g.G.RouteTables.tables c.args.tables.now in
+    let r = c.args.router in
+    let p = c.args.case.now.prefix in
     let same = told_unheard n state c.requires.told.unheard in
-    rw same at (rw c.in-None.is at c.requires.none)
+    let holds : OwnHolds (network_of c.args.case.now) state r p (route_at t r p) = rw same at (rw c.in-None.is at c.requires.none) in
+    subst (λ (x : List Block). OwnHolds (network_at n x p) state r p (route_at t r p)) c.requires.told.prefixes holds

@@ -1,35 +1,36 @@
-use Rattle.std.proofs.Common.{◌≡◌, get_or, inr, sym, ◌∙◌, arith}
+use Rattle.std.proofs.Common.{◌≡◌, inr, sym, ◌∙◌, arith}
 use Rattle.std.proofs.lemmas.Bool.Decides.{not_from_Decides}
 use Rattle.rip_check.specs.Metrics.{metric_at}
-use Rattle.rip_check.proofs.OwnedLemmas.{first_is_leaf, its_number, some_number, within}
+use Rattle.rip_check.proofs.NetLemmas.{its, leaf_own}
+use Rattle.rip_check.proofs.OwnedLemmas.{within}
 use Rattle.rip_check.proofs.LeafRouterLemmas.{low_fits, not_told, low_one, low_shows}
 use Rattle.rip_check.proofs.PlanLemmas.{attached_test}
 use Rattle.rip_check.proofs.routes.leaf_route.Goals as goal
 use Rattle.rip_check.proofs.routes.leaf_route.Goals.{in_default-via-in-Some+else-metric-lt16, in_default-via-in_default}
-use Rattle.rip_check.specs.Cases.{told_in}
-
-pub bounds-of_router-0 : goal.bounds-of_router-0
-bounds-of_router-0 g c =
-    let alone = c.requires.leaf in
-    some_number c.args.case.now.plan.now c.args.router c.of_router.result.now c.of_router.ensures.exact alone.0 alone.1 alone.2 alone.3
+use Rattle.rip_check.specs.Cases.{block_of, network_of, told_in}
 
 pub interface-own-requires : goal.interface-own-requires
 interface-own-requires g c =
-    its_number c.args.case.now.plan.now c.args.router c.of_router.result.now c.of_router.ensures.exact 0
-    (some_number c.args.case.now.plan.now c.args.router c.of_router.result.now c.of_router.ensures.exact c.requires.leaf.0 c.requires.leaf.1 c.requires.leaf.2 c.requires.leaf.3)
+    let case = c.args.case.now in
+    let leaf = c.requires.leaf in
+    let at = (its case.plan.now c.lawful.ensures.plan (block_of case) c.args.only c.args.router leaf.0 leaf.1 c.requires.router leaf.2.has).0 in
+    within case.plan.now c.args.only c.args.router leaf.0 leaf.1 at
 
 pub told_at-told-requires : goal.told_at-told-requires
 told_at-told-requires g c =
-    within c.args.case.now.plan.now (get_or c.of_router.result.now 0 0) c.interface-own.result.router c.interface-own.result.link c.interface-own.result.cost c.interface-own.ensures.is
+    within c.args.case.now.plan.now c.args.only c.interface-own.result.router c.interface-own.result.link c.interface-own.result.cost c.interface-own.ensures.is
+
+pub silent_leaf-requires-clause-router : goal.silent_leaf-requires-clause-router
+silent_leaf-requires-clause-router g c = c.lawful.ensures.plan.router_known _ _ _ _ c.interface-own.ensures.is
 
 pub returns-then-eq : goal.returns-then-eq
 returns-then-eq g c =
-    let n = c.args.case.now.plan.now in
+    let n = network_of c.args.case.now in
     let shown = (told_in c.args.case.now) in
-    let i = get_or c.of_router.result.now 0 0 in
+    let i = c.args.only in
     let own = c.interface-own.result in
     let alone = c.requires.leaf in
-    let only = first_is_leaf n c.args.router c.of_router.result.now c.of_router.ensures.exact alone.0 alone.1 alone.2 own alone.3 c.interface-own.ensures.is in
+    let only = leaf_own c.args.case.now.plan.now c.lawful.ensures.plan (block_of c.args.case.now) c.args.only c.args.router alone.0 alone.1 own c.requires.router alone.2 c.interface-own.ensures.is in
     let m = c.in-Some.metric in
     let e = sym {b = metric_at shown i c.args.case.now.prefix} c.told_at-told.ensures.metric ∙ c.in-Some.is in
     let d = attached_test n c.args.router c.args.case.now.prefix own.link c.attached_link.result c.eq.result c.attached_link.ensures c.eq.ensures in
@@ -40,12 +41,12 @@ returns-then-eq g c =
 
 pub returns-else-eq : goal.returns-else-eq
 returns-else-eq g c =
-    let n = c.args.case.now.plan.now in
+    let n = network_of c.args.case.now in
     let shown = (told_in c.args.case.now) in
-    let i = get_or c.of_router.result.now 0 0 in
+    let i = c.args.only in
     let own = c.interface-own.result in
     let alone = c.requires.leaf in
-    let only = first_is_leaf n c.args.router c.of_router.result.now c.of_router.ensures.exact alone.0 alone.1 alone.2 own alone.3 c.interface-own.ensures.is in
+    let only = leaf_own c.args.case.now.plan.now c.lawful.ensures.plan (block_of c.args.case.now) c.args.only c.args.router alone.0 alone.1 own c.requires.router alone.2 c.interface-own.ensures.is in
     let m = c.in-Some.metric in
     let e = sym {b = metric_at shown i c.args.case.now.prefix} c.told_at-told.ensures.metric ∙ c.in-Some.is in
     let d = attached_test n c.args.router c.args.case.now.prefix own.link c.attached_link.result c.eq.result c.attached_link.ensures c.eq.ensures in
@@ -63,16 +64,16 @@ pub silent_leaf-requires-clause-leaf : goal.silent_leaf-requires-clause-leaf
 silent_leaf-requires-clause-leaf g c =
     let alone = c.requires.leaf in
     let own = c.interface-own.result in
-    let only = first_is_leaf c.args.case.now.plan.now c.args.router c.of_router.result.now c.of_router.ensures.exact alone.0 alone.1 alone.2 own alone.3 c.interface-own.ensures.is in
+    let only = leaf_own c.args.case.now.plan.now c.lawful.ensures.plan (block_of c.args.case.now) c.args.only c.args.router alone.0 alone.1 own c.requires.router alone.2 c.interface-own.ensures.is in
     let same : c.in_default.told ≡ c.told_at-told.result = elim c.in_default.branch [
       | in_default-via-in-Some+else-metric-lt16 w ↦ w.told-is ∙ sym w.in-Some.is
       | in_default-via-in_default w ↦ w.told-is
     ] in
-    (get_or c.of_router.result.now 0 0, rw only.0 only.1, same ∙ c.told_at-told.ensures.metric)
+    (c.args.only, rw only.0 only.1, same ∙ c.told_at-told.ensures.metric)
 
 pub returns-in_default : goal.returns-in_default
 returns-in_default g c =
     let alone = c.requires.leaf in
     let own = c.interface-own.result in
-    let only = first_is_leaf c.args.case.now.plan.now c.args.router c.of_router.result.now c.of_router.ensures.exact alone.0 alone.1 alone.2 own alone.3 c.interface-own.ensures.is in
+    let only = leaf_own c.args.case.now.plan.now c.lawful.ensures.plan (block_of c.args.case.now) c.args.only c.args.router alone.0 alone.1 own c.requires.router alone.2 c.interface-own.ensures.is in
     record { some = rw only.0 at c.silent_leaf.ensures; none = tt }

@@ -1,4 +1,4 @@
-use Rattle.std.proofs.Common.{◌≡◌, ap, ◌∙◌}
+use Rattle.std.proofs.Common.{◌∙◌}
 use Rattle.rip_plan.specs.Network.{is_item}
 use Rattle.rip_plan.proofs.ClashLemmas.{seen_more}
 use Rattle.rip_plan.proofs.index.exchanged_of.Goals as goal

@@ -22,7 +22,7 @@ returns-clause-places g c = λ on text given n s accepted.
 pub returns-clause-plain : goal.returns-clause-plain
 returns-clause-plain g c =
     let e = c.run_report.ensures in
-    λ text given n s accepted plain. plain_headline n s c.run_report.result.2 (λ r p route. c.plain_paths.ensures.routes n r p route plain) (e.meaning text given n s accepted)
+    λ text given n s accepted plain. plain_headline n s c.run_report.result.2 plain.no_list (λ r p route. c.plain_paths.ensures.routes n r p route plain) (e.meaning text given n s accepted)
 
 pub returns-clause-one_set : goal.returns-clause-one_set
 returns-clause-one_set g c = λ text given n s accepted. c.accepted_tables.ensures c.args.plan.now text n s accepted

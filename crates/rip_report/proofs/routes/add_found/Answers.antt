@@ -1,17 +1,20 @@
+use Rattle.rip_plan.proofs.PrefixNetworkLemmas.{prefix_network}
+use Rattle.rip_check.specs.Cases.{block_of, state_of}
 use Rattle.rip_report.specs.RoutesText.{a_route, route_of, unheard}
 use Rattle.rip_report.proofs.OutLemmas.{adds_one}
-use Rattle.rip_report.proofs.UnsettledLemmas.{known_way}
+use Rattle.rip_report.proofs.UnsettledLemmas.{there_known}
 use Rattle.rip_report.proofs.routes.add_found.Goals as goal
 
 pub push_unread_line-requires-clause-known : goal.push_unread_line-requires-clause-known
 push_unread_line-requires-clause-known g c =
     let first = c.in-Some.ensures.some.1 in
-    c.lawful.ensures.link_known first.interface c.args.router c.in-Some.link first.cost first.its
+    let case = c.args.case.now in
+    (prefix_network case.plan.now c.lawful.ensures (block_of case)).link_known first.interface c.args.router c.in-Some.link first.cost first.its
 
 pub push_read_line-requires-clause-way : goal.push_read_line-requires-clause-way
 push_read_line-requires-clause-way g c =
     let found = c.args.found.now in
-    known_way c.args.case.now.plan.now c.args.router c.args.case.now.prefix found.metric found.way c.lawful.ensures c.requires.read.fits.told.way_fits
+    there_known c.args.case.now.plan.now (state_of c.args.case.now) c.args.router c.args.case.now.prefix (route_of found) c.lawful.ensures c.requires.read.fits
 
 pub returns-in-Some : goal.returns-in-Some
 returns-in-Some g c =

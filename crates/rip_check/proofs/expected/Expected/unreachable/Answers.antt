@@ -1,5 +1,6 @@
 use Rattle.std.proofs.Common.{◌≤◌, length, arith}
 use Rattle.rip_check.specs.Expected.{IsCount}
+use Rattle.rip_check.specs.Networks.{network_at}
 use Rattle.rip_check.specs.Paths.{IsLeast}
 use Rattle.rip_check.proofs.CountLemmas.{adds}
 use Rattle.rip_check.proofs.NumberLemmas.{few_prefixes}
@@ -10,7 +11,7 @@ loop-router-preserved c =
     let n = c.args.plan.now in
     let part : c.unreachable_of-total.result ≤ 1024 = omega (arith, c.unreachable_of-total.ensures.most, few_prefixes n c.lawful.ensures, c.lawful.ensures.few_places) in
     record {
-      summed = adds (λ r. IsCount (λ p. IsLeast n p r 16)
+      summed = adds (λ r. IsCount (λ p. IsLeast (network_at n n.prefixes p) p r 16)
           (length n.prefixes)) c.loop-router.router c.loop-router.total c.unreachable_of-total.result c.unreachable_of-total.ensures.count c.loop-router.invariant.summed;
       few = omega (arith, part, c.loop-router.invariant.few);
     }

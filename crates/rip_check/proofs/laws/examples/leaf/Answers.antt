@@ -1,4 +1,5 @@
 use Rattle.std.proofs.Common.{refl, ap, arith}
+use Rattle.rip_plan.proofs.PrefixNetworkLemmas.{plan_network}
 use Rattle.rip_check.specs.Tables.{Route}
 use Rattle.rip_check.specs.Examples.{with_leaf, leaf_shown, leaf_tables, route}
 use Rattle.rip_check.specs.declared.way.Way.TheVariants.{Over, Unreachable}
@@ -20,5 +21,5 @@ returns-clause-hidden c = fits_gives with_leaf leaf_shown 3 0 (route 2 (Over 1))
 pub returns-clause-reachable : goal.returns-clause-reachable
 returns-clause-reachable c = λ fits.
     let plan = lawful with_leaf passes (λ text. (c.names.ensures.exact text).0) in
-    let one = one_route with_leaf plan leaf_shown 3 0 (route 16 Unreachable) (route 2 (Over 1)) (omega arith) fits (fits_gives with_leaf leaf_shown 3 0 (route 2 (Over 1)) refl) in
+    let one = one_route with_leaf (plan_network with_leaf plan) leaf_shown 3 0 (route 16 Unreachable) (route 2 (Over 1)) (omega arith) fits (fits_gives with_leaf leaf_shown 3 0 (route 2 (Over 1)) refl) in
     absurd (omega (arith, ap (λ (t : Route). t.metric) one))

@@ -2,9 +2,6 @@ use Rattle.std.proofs.Common.{inl, inr}
 use Rattle.rip_check.proofs.StayingLemmas.{is_true}
 use Rattle.rip_check.proofs.untouched.Scenario.is_cut.Goals as goal
 
-pub keeps_way-requires-clause-router : goal.keeps_way-requires-clause-router
-keeps_way-requires-clause-router c = c.lawful.ensures.router_known _ _ _ _ c.requires.own.1
-
 pub returns-then-leads_down : goal.returns-then-leads_down
 returns-then-leads_down c = λ e s on step. inr (c.keeps_way.ensures (is_true c.keeps_way.result e))
 

@@ -1,6 +1,10 @@
-use Rattle.std.proofs.Common.{ℕ, ◌⊎◌, arith}
+use Rattle.std.proofs.Common.{ℕ, ◌<◌, ◌⊎◌, length, arith}
 use Rattle.rip_plan.specs.Relations.{HasCost, IsOn}
+use Rattle.rip_check.specs.declared.untouched.Scenario.{Scenario}
+use Rattle.rip_check.specs.Networks.{block_at}
+use Rattle.rip_check.specs.Scenarios.{network_before}
 use Rattle.rip_check.specs.Untouched.{IsStep, IsStepUp, KeepsWay}
+use Rattle.rip_check.proofs.NetLemmas.{its_on}
 use Rattle.rip_check.proofs.OwnedLemmas.{each_more, every, its_number}
 use Rattle.rip_check.proofs.untouched.Scenario.is_cut_around.Goals as goal
 
@@ -12,20 +16,23 @@ is_cut_on-requires-clause-link c =
     let x = c.interface.result in
     c.lawful.ensures.link_known _ x.router x.link x.cost c.interface.ensures.is
 
+-- no way of a least path over a link is cut off
+abbrev IsWhole : Scenario → ℕ → Type 0
+IsWhole a l =
+    (r d s : ℕ) → r < length a.plan.now.routers → HasCost (network_before a) r l d → IsOn (network_before a) s l → IsStep (network_before a) a.prefix r d s →
+    IsStepUp a.failure l s ⊎ KeepsWay a.plan.now a.failure a.prefix r
+
 pub loop-i-preserved : goal.loop-i-preserved
 loop-i-preserved c =
-    let n = c.args.self.now.plan.now in
-    let f = c.args.self.now.failure in
-    let p = c.args.self.now.prefix in
-    let Q : ℕ → ℕ → Type 0 = λ i l. (r d s : ℕ) → HasCost n r l d → IsOn n s l → IsStep n p r d s → IsStepUp f l s ⊎ KeepsWay n f p r in
-    each_more n c.args.router c.of_router-numbers.result.now c.of_router-numbers.ensures.exact Q c.loop-i.i-index c.interface.result c.interface.ensures.is
+    let a = c.args.self.now in
+    each_more a.plan.now c.args.router c.of_router-numbers.result.now c.of_router-numbers.ensures.exact (λ i l. IsWhole a l) c.loop-i.i-index c.interface.result c.interface.ensures.is
     c.loop-i.invariant (c.is_cut_on.ensures c.if-is_cut_on.false)
 
 pub returns : goal.returns
 returns c =
-    let n = c.args.self.now.plan.now in
-    let f = c.args.self.now.failure in
-    let p = c.args.self.now.prefix in
-    let Q : ℕ → ℕ → Type 0 = λ i l. (r d s : ℕ) → HasCost n r l d → IsOn n s l → IsStep n p r d s → IsStepUp f l s ⊎ KeepsWay n f p r in
-    λ e l r d s on. every n c.args.router c.of_router-numbers.result.now c.of_router-numbers.ensures.exact Q c.loop-i.i-index
-    (omega (arith, c.loop-i-test.false, c.loop-i.auto.i-index-end)) c.loop-i.invariant on.1.0 l on.0 on.1.1 r d s
+    let a = c.args.self.now in
+    let n = a.plan.now in
+    λ e l r d s lt on has.
+    let was = (its_on n c.lawful.ensures (block_at n.prefixes a.prefix) c.args.router l c.requires.router on).0 in
+    every n c.args.router c.of_router-numbers.result.now c.of_router-numbers.ensures.exact (λ i l. IsWhole a l) c.loop-i.i-index
+    (omega (arith, c.loop-i-test.false, c.loop-i.auto.i-index-end)) c.loop-i.invariant was.1.0 l was.0 was.1.1 r d s lt has

@@ -1,8 +1,9 @@
-use Rattle.std.proofs.Common.{◌≡◌, ℕ, length, ap, arith}
+use Rattle.std.proofs.Common.{List, length, ap, subst, arith}
+use Rattle.rip_wire.specs.Prefix.{Block}
 use Rattle.rip_routes.specs.OwnTables.{route_at}
-use Rattle.rip_check.specs.Cases.{network_of, state_of, told_in}
+use Rattle.rip_check.specs.Cases.{network_of, plan_of, state_of, told_in}
+use Rattle.rip_check.specs.Networks.{network_at}
 use Rattle.rip_check.specs.OwnSettled.{OwnHolds}
-use Rattle.rip_check.specs.OwnVerdicts.{IsOwnSound}
 use Rattle.rip_check.specs.Settled.{IsLeastChoice}
 use Rattle.rip_check.proofs.OnePlaceLemmas.{choice_low}
 use Rattle.rip_check.proofs.OwnWrongLemmas.{told_unheard, wrong_fails}
@@ -16,20 +17,38 @@ wrong_by-requires-clause-equation g c = record { chosen = c.least_choice-equatio
 
 pub returns-in-Some : goal.returns-in-Some
 returns-in-Some g c =
-    let n = network_of c.args.case.now in
-    let told = told_in c.args.case.now in
+    let case = c.args.case.now in
+    let n = plan_of case in
+    let state = state_of case in
+    let told = told_in case in
     let r = c.args.router in
-    let p = c.args.case.now.prefix in
+    let p = case.prefix in
+    let v = c.least_choice-equation.result in
     let route = route_at (g.G.RouteTables.tables c.args.self.now.tables.now) r p in
-    let same = told_unheard n (state_of c.args.case.now) c.requires.fits.unheard in
-    let is : IsLeastChoice n told r p c.least_choice-equation.result = record { chosen = c.least_choice-equation.ensures.chosen; least = c.least_choice-equation.ensures.least } in
-    let fails : OwnHolds n told r p route → ⊥ = wrong_fails n told r p route _ c.in-Some.ensures.some in
+    let same = told_unheard n state c.requires.fits.unheard in
+    let listed = c.requires.fits.prefixes in
+    let is : IsLeastChoice (network_of case) told r p v = record { chosen = c.least_choice-equation.ensures.chosen; least = c.least_choice-equation.ensures.least } in
+    let is' : IsLeastChoice (network_of case) state r p v = rw same at is in
+    let fails : OwnHolds (network_of case) told r p route → ⊥ = wrong_fails n told r p route _ c.in-Some.ensures.some in
+    let fails' : OwnHolds (network_of case) state r p route → ⊥ = rw same at fails in
     record {
       sound = tt;
-      fails = (choice_low n told c.lawful.ensures r p c.least_choice-equation.result is.chosen, c.least_choice-equation.ensures.most, rw same at is, rw same at fails);
+      fails = (
+        choice_low (network_of case) told c.lawful.ensures.network r p v is.chosen,
+        c.least_choice-equation.ensures.most,
+        subst (λ (x : List Block). IsLeastChoice (network_at n x p) state r p v) listed is',
+        subst (λ (x : List Block). OwnHolds (network_at n x p) state r p route → ⊥) listed fails',
+      );
     }
 
 pub returns-in-None : goal.returns-in-None
 returns-in-None g c =
-    let same = told_unheard (network_of c.args.case.now) (state_of c.args.case.now) c.requires.fits.unheard in
-    record { sound = rw same at c.in-None.ensures.none; fails = tt }
+    let case = c.args.case.now in
+    let n = plan_of case in
+    let state = state_of case in
+    let r = c.args.router in
+    let p = case.prefix in
+    let route = route_at (g.G.RouteTables.tables c.args.self.now.tables.now) r p in
+    let same = told_unheard n state c.requires.fits.unheard in
+    let holds : OwnHolds (network_of case) state r p route = rw same at c.in-None.ensures.none in
+    record { sound = subst (λ (x : List Block). OwnHolds (network_at n x p) state r p route) c.requires.fits.prefixes holds; fails = tt }

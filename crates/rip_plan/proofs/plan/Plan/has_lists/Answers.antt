@@ -1,5 +1,3 @@
-use Rattle.std.proofs.Common.{◌∙◌, ap, sym}
-use Rattle.std.specs.List.{list_any}
 use Rattle.rip_plan.proofs.PlanAnswerLemmas.{lists_exact}
 use Rattle.rip_plan.proofs.plan.Plan.has_lists.Goals as goal
 

@@ -1,4 +1,4 @@
-use Rattle.std.proofs.Common.{ap, refl, subst}
+use Rattle.std.proofs.Common.{ap, subst}
 use Rattle.rip_report.specs.OwnText.OwnVerdictText.{a_settled, an_unlisted}
 use Rattle.rip_report.specs.OwnText.{IsOwnJudged, own_status}
 use Rattle.rip_report.proofs.OutLemmas.{adds_one}
