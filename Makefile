@@ -43,7 +43,7 @@ install: $(PROGRAM)
 	install -D $(PROGRAM) $(DESTDIR)$(PREFIX)/bin/ripaudit
 	install -D -m 644 docs/ripaudit.1 $(SHARE)/man/man1/ripaudit.1
 	install -d $(SHARE)/ripaudit
-	install -m 755 share/plan-from-routers share/plan-to-dot share/routes-from-routers $(SHARE)/ripaudit
+	install -m 755 share/causes share/plan-from-routers share/plan-to-dot share/routes-from-routers $(SHARE)/ripaudit
 	install -m 644 share/*.awk share/routers.sh $(SHARE)/ripaudit
 	install -D -m 644 completions/ripaudit.bash $(SHARE)/bash-completion/completions/ripaudit
 	install -D -m 644 completions/_ripaudit $(SHARE)/zsh/site-functions/_ripaudit

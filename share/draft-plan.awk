@@ -14,6 +14,15 @@ function print_line(text, router, name) {
 # Prints the line of an item of a list, of an interface where there is a name.
 function item(text, router, name) { print_line("    { " text " },", router, name) }
 
+# A link, with the list of what it exchanges, where filters tell that, or with why they do not.
+function link_item(net,    text) {
+    text = "name = \"" label[net] "\", prefixes = [\"" net "\"]"
+    if (net in only) text = text ", only = [" only[net] "]"
+    if (net in vague) guess("that all is exchanged, since " vague[net])
+    if (members[net] == 1) guess("that " last[net] " alone speaks here")
+    item(text)
+}
+
 # Tells whether an interface shows nothing on the link over which the router has a route.
 function is_simple(router, name) { return (router, name) in manner && manner[router, name] == "simple" }
 
@@ -103,10 +112,7 @@ END {
     print "version = 1"
     if (simple) print "poison = false"
     print "link = ["
-    for (l = 1; l <= links; l++) {
-        if (members[nets[l]] == 1) guess("that " last[nets[l]] " alone speaks here")
-        item("name = \"" label[nets[l]] "\", prefixes = [\"" nets[l] "\"]")
-    }
+    for (l = 1; l <= links; l++) link_item(nets[l])
     print "]"
     for (r = 1; r <= routers; r++) print_router(names[r])
 }

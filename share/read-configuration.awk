@@ -1,7 +1,7 @@
 # Reads the configurations of routers of FRR and BIRD, after read-routers.awk and for draft-plan.awk: what interfaces cost,
-# the metrics of what is redistributed and the distances of statics, the `manner` of an interface, and what no key of a plan
-# says of it (`unsaid`). The manner is what a router shows on the link over which it has a route: nothing (`simple`), 16
-# (`poison`), or the metric (`off`).
+# the metrics of what is redistributed and the distances of statics, the `manner` of an interface, the `filter` on what FRR sends
+# over it, and what no key of a plan says of it (`unsaid`). The manner is what a router shows on the link over which it has a
+# route: nothing (`simple`), 16 (`poison`), or the metric (`off`).
 
 # Notes what no key says of an interface, or of a router, where the name is "".
 function add_unsaid(name, text) {
@@ -16,6 +16,13 @@ function read_interface(name) {
     if (/^ ip rip authentication mode /) add_unsaid(name, "that it authenticates, by " $5)
 }
 
+# Notes an outgoing filter of an interface by its list, as `prefix-list DEFAULT`, or one that holds at all, where the name is "".
+function add_filter(name, text) {
+    filters[router, name]++
+    if (name == "") add_unsaid("", "that it filters what it sends, by distribute-list " substr(text, index(text, " ") + 1))
+    else filter[router, name] = text
+}
+
 # A line below `router rip` of FRR. A distribute-list or an offset-list without an interface holds at all.
 function read_rip(    letter, way) {
     if ($1 == "offset-list" && $3 == "in") {
@@ -25,8 +32,11 @@ function read_rip(    letter, way) {
     if ($1 == "offset-list" && $3 == "out") add_unsaid($5, "that it adds to what it sends, by offset-list " $2)
     way = $2 == "prefix" ? 4 : 3
     if ($1 == "distribute-list" && $way == "out")
-        add_unsaid($(way + 1), "that it filters what it sends, by distribute-list " $(way - 1))
-    if ($1 == "route-map" && $3 == "out") add_unsaid($4, "that it changes what it sends, by route-map " $2)
+        add_filter($(way + 1), (way == 4 ? "prefix-list " : "access-list ") $(way - 1))
+    if ($1 == "route-map" && $3 == "out") {
+        filters[router, $4]++
+        add_unsaid($4, "that it changes what it sends, by route-map " $2)
+    }
     if ($1 == "allow-ecmp") add_unsaid("", "that it goes several equal ways at once, by allow-ecmp")
     if ($1 != "redistribute") return
     letter = toupper(substr($2, 1, 1))
@@ -42,11 +52,28 @@ function read_static(    far, i) {
     if (!((router, $3) in distance) || far < distance[router, $3]) distance[router, $3] = far
 }
 
+# A line of a list of FRR, as `access-list FEW seq 5 permit 10.8.0.0/16 exact-match`: what it does with a prefix, and whether
+# with that alone (`exact`). Of an access-list without the last word, or a prefix-list with le or ge, it is with others too.
+function read_list(    first, verb, key) {
+    first = $1 == "ip" ? 2 : 1
+    verb = first + ($(first + 2) == "seq" ? 4 : 2)
+    if ($verb != "permit" && $verb != "deny") return
+    key = router SUBSEP $first " " $(first + 1)
+    rules[key]++
+    key = key SUBSEP rules[key]
+    action[key] = $verb
+    target[key] = "0.0.0.0/0"
+    if ($(verb + 1) !~ /^[0-9.]+\/[0-9]+$/) return
+    target[key] = network($(verb + 1))
+    exact[key] = first == 2 ? NF == verb + 1 : $(verb + 2) == "exact-match"
+}
+
 # A file of an earlier --help has lines of `router rip` alone, without that line.
 section == "running-config" && /^[^ ]/ { part = $1 " " $2 }
 section == "running-config" && part ~ /^interface / { read_interface(substr(part, 11)) }
 section == "running-config" && (part == "" || part == "router rip") { read_rip() }
 section == "running-config" && /^ip route / { read_static() }
+section == "running-config" && /^(access-list|ip prefix-list) / { read_list() }
 
 # Begins what BIRD's configuration says of a list of interfaces. An interface belongs to the first list of its protocol that
 # has it.
@@ -136,11 +163,11 @@ function find_clause(name,    clause, n) {
     }
 }
 
-# Tells whether the file of the router has lines of FRR's interfaces.
-function has_interfaces(    title) {
+# Tells whether the file of a router has the lines of FRR's configuration with a word: those that were asked for, or all.
+function has_lines(router, word,    title) {
     if (!((router, "running-config") in shown)) return 0
     title = shown[router, "running-config"]
-    return title ~ /split-horizon/ || title !~ / include /
+    return index(title, word) || title !~ / include /
 }
 
 END {
@@ -150,7 +177,7 @@ END {
         for (i = 1; i <= count[router]; i++) {
             name = on[router, i]
             if ((router, "configuration") in shown) find_clause(name)
-            if (has_interfaces() && !((router, name) in manner)) manner[router, name] = "simple"
+            if (has_lines(router, "split-horizon") && !((router, name) in manner)) manner[router, name] = "simple"
             if ((router, name) in manner && manner[router, name] == "off") add_unsaid(name, "that split horizon is off")
         }
     }

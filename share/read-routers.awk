@@ -1,6 +1,6 @@
 # Notes what daemons of FRR and BIRD say, after read-sections.awk and for draft-plan.awk. Of a router it notes the interfaces on
-# which it speaks RIP (`on`), all its addresses, what interfaces of BIRD cost, and the prefixes that it announces itself (`own`)
-# with the next hop and the metric of each.
+# which it speaks RIP (`on`), all its addresses, what interfaces of BIRD cost, the prefixes that it announces itself (`own`) with
+# the next hop and the metric of each, and of FRR those that it has learned, each with who told it.
 
 # Notes the first address of an interface, or a further one.
 function add_address(text) {
@@ -34,6 +34,10 @@ section == "interface" && /^  inet / && !/ secondary/ { add_address($2) }
 section == "ip rip" && $5 == "self" && $4 < 16 {
     add_own($2, $3, $4)
     kind[router, prefix] = substr($1, 1, 1)
+}
+section == "ip rip" && /^R/ && $5 != "self" && $4 < 16 {
+    learned[router, ++learns[router]] = $2
+    teller[router, learns[router]] = $5
 }
 
 # BIRD. It lists interfaces that are down too, and all that it exports, also what it learned by RIP.
