@@ -6,6 +6,7 @@ ghost use Rattle.rip_check.specs.Expected.{AreExpected};
 
 use crate::examples::{PHANTOM, SETTLED, SLOPE, TRIANGLE};
 use crate::fixtures::{grid_of, list_of, metric, plan_of};
+use rip_check::laws::plans_without_lists;
 use rip_check::{
     Case, Expected, Place2, Route, Unclear, Unsettled, Verdict, Way, equation, judge, least_metric,
     next_unsettled, offer, route,
@@ -150,7 +151,11 @@ fn expect_offer<T: Table>(rt: &impl Abort, plan: &Plan, table: &T, offered: Offe
     requires { Fits plan.now (T.state table.now) }
 {
     plan.lawful();
+    plans_without_lists();
     let (number, across, prefix, value) = offered;
+    if plan.has_lists() {
+        rt.abort();
+    }
     assert!(rt; number < plan.interfaces() && across < plan.interfaces());
     assert!(rt; prefix < table.prefix_count());
     let own = plan.interface(number);
