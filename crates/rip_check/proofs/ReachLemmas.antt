@@ -18,6 +18,7 @@ use Rattle.rip_check.proofs.OwnedLemmas.{IsSoBefore, all_before, ascends_below, 
 -- of the interfaces of the router at the places before this one
 pub record IsReachBefore (n : Network) (shown : State) (p r : ℕ) (numbers : List ℕ) (k : ℕ) (first : Option ℕ) (more : Bool) (loud : Option ℕ) : Type 0 where
   pub some : (i : ℕ) → first ≡ Some i → ((l c : ℕ) × IsInterface (network_at n shown.prefixes p) i r l c) × ((j : ℕ) × (j < k) × (get_or numbers j 0 ≡ i))
+  pub least : (i : ℕ) → first ≡ Some i → (j l c : ℕ) → j < k → IsInterface n (get_or numbers j 0) r l c → Exchanges n l (block_at shown.prefixes p) → i ≤ get_or numbers j 0
   pub none : first ≡ None → (j l c : ℕ) → j < k → IsInterface n (get_or numbers j 0) r l c → Exchanges n l (block_at shown.prefixes p) → ⊥
   pub two : more ≡ true → HasTwoInterfaces (network_at n shown.prefixes p) r
   pub one : more ≡ false → (i : ℕ) → first ≡ Some i → (j l c : ℕ) → j < k → IsInterface n (get_or numbers j 0) r l c → Exchanges n l (block_at shown.prefixes p) → get_or numbers j 0 ≡ i
@@ -27,6 +28,7 @@ pub record IsReachBefore (n : Network) (shown : State) (p r : ℕ) (numbers : Li
 pub none_before : (n : Network) (shown : State) (p r : ℕ) (numbers : List ℕ) → IsReachBefore n shown p r numbers 0 None false None
 none_before n shown p r numbers = record {
   some = λ i e. cc e;
+  least = λ i e. cc e;
   none = λ e j l c lt. absurd (omega (arith, lt));
   two = λ e. cc e;
   one = λ e i is. cc is;
@@ -57,6 +59,8 @@ module _ (n : Network) (laws : IsLawful n) (shown : State) (p r : ℕ) (numbers 
         let less : f < get_or numbers k 0 = omega (arith, old.1.2, ascends_below numbers up old.1.0 k old.1.1 lt) in
         record {
           some = λ i same. let h = was.some i same in (h.0, later i h.1);
+          least = λ i same. each_more n r numbers exact (λ j l. Exchanges n l (block_at shown.prefixes p) → i ≤ j) k own is (was.least i same)
+              (λ yes. let h = (was.some i same).1 in let sooner : i < get_or numbers k 0 = omega (arith, h.2, ascends_below numbers up h.0 k h.1 lt) in omega (arith, sooner));
           none = λ none. cc (none, e);
           two = λ yes. (f, get_or numbers k 0, old.0.0, own.link, old.0.1, own.cost, old.0.2, there, λ same. omega (arith, less, same));
           one = λ not. cc not;
@@ -68,6 +72,8 @@ module _ (n : Network) (laws : IsLawful n) (shown : State) (p r : ℕ) (numbers 
     first_one e = record {
       some = λ i same. subst (λ (j : ℕ). ((l c : ℕ) × IsInterface (network_at n shown.prefixes p) j r l c) × ((m : ℕ) × (m < k + 1) × (get_or numbers m 0 ≡ j))) (same_Some _ _ same)
           ((own.link, own.cost, there), (k, omega arith, refl));
+      least = λ i same. each_more n r numbers exact (λ j l. Exchanges n l (block_at shown.prefixes p) → i ≤ j) k own is
+          (λ j l c sooner its yes. absurd (was.none e j l c sooner its yes)) (λ yes. omega (arith, same_Some _ _ same));
       none = λ none. cc none;
       two = was.two;
       one = λ not i same. each_more n r numbers exact (λ j l. Exchanges n l (block_at shown.prefixes p) → j ≡ i) k own is
@@ -81,12 +87,16 @@ module _ (n : Network) (laws : IsLawful n) (shown : State) (p r : ℕ) (numbers 
     none_more : first ≡ None → IsSoBefore n r numbers exact (λ j l. Exchanges n l (block_at shown.prefixes p) → ⊥) (k + 1)
     none_more e = each_more n r numbers exact (λ j l. Exchanges n l (block_at shown.prefixes p) → ⊥) k own is (was.none e) closed
 
+    least_more : (i : ℕ) → first ≡ Some i → IsSoBefore n r numbers exact (λ j l. Exchanges n l (block_at shown.prefixes p) → i ≤ j) (k + 1)
+    least_more i same = each_more n r numbers exact (λ j l. Exchanges n l (block_at shown.prefixes p) → i ≤ j) k own is (was.least i same) (λ yes. absurd (closed yes))
+
     one_more : more ≡ false → (i : ℕ) → first ≡ Some i → IsSoBefore n r numbers exact (λ j l. Exchanges n l (block_at shown.prefixes p) → j ≡ i) (k + 1)
     one_more e i same = each_more n r numbers exact (λ j l. Exchanges n l (block_at shown.prefixes p) → j ≡ i) k own is (was.one e i same) (λ yes. absurd (closed yes))
 
     pub loud_one : loud ≡ None → (IsSilent (metric_at shown (get_or numbers k 0) p) → ⊥) → IsReachBefore n shown p r numbers (k + 1) first more (Some own.link)
     loud_one e tells = record {
       some = λ i same. let h = was.some i same in (h.0, later i h.1);
+      least = least_more;
       none = none_more;
       two = was.two;
       one = one_more;
@@ -104,6 +114,7 @@ module _ (n : Network) (laws : IsLawful n) (shown : State) (p r : ℕ) (numbers 
     pub quiet_one : (loud ≡ None → IsSilent (metric_at shown (get_or numbers k 0) p)) → IsReachBefore n shown p r numbers (k + 1) first more loud
     quiet_one silent = record {
       some = λ i same. let h = was.some i same in (h.0, later i h.1);
+      least = least_more;
       none = none_more;
       two = was.two;
       one = one_more;
@@ -116,6 +127,10 @@ module _ (n : Network) (laws : IsLawful n) (shown : State) (p r : ℕ) (at : r <
   pub reach_is : (bound : ℕ) → IsReach (network_at n shown.prefixes p) r bound first more
   reach_is bound = record {
     some = λ i e. (is.some i e).0;
+    before = λ i j l c same less there.
+        let was = its n laws (block_at shown.prefixes p) j r l c at there in
+        let last : i ≤ j = every n r numbers exact (λ q m. Exchanges n m (block_at shown.prefixes p) → i ≤ q) k end (is.least i same) j l c was.0 was.1 in
+        absurd (omega (arith, less, last));
     none = λ e i l c lt there.
         let was = its n laws (block_at shown.prefixes p) i r l c at there in
         every n r numbers exact (λ j m. Exchanges n m (block_at shown.prefixes p) → ⊥) k end (is.none e) i l c was.0 was.1;

@@ -63,6 +63,7 @@ pub record IsSurvey (n : Network) (shown : State) (r p bound : ℕ) (found : Sur
 -- the first interface of the router before the bound, if there is one, and whether there is another
 pub record IsReach (n : Network) (r bound : ℕ) (first : Option ℕ) (more : Bool) : Type 0 where
   pub some : (i : ℕ) → first ≡ Some i → (l c : ℕ) × IsInterface n i r l c
+  pub before : (i j l c : ℕ) → first ≡ Some i → j < i → IsInterface n j r l c → ⊥
   pub none : first ≡ None → (i l c : ℕ) → i < bound → IsInterface n i r l c → ⊥
   pub two : more ≡ true → HasTwoInterfaces n r
   pub one : more ≡ false → (i j l c : ℕ) → first ≡ Some i → j < bound → IsInterface n j r l c

@@ -1,4 +1,4 @@
-//! What a router tells of a prefix, found by one walk over its interfaces.
+//! What a router tells of a prefix, found by walks over its interfaces.
 
 ghost use Rattle.std.specs.Prelude.{◌≡◌, ◌↔◌, ℕ, ◌+◌, ◌<◌, ◌≤◌, Decides, IfSome, None, Some, false, length, not};
 ghost use Rattle.rip_plan.specs.Network.{Network};
