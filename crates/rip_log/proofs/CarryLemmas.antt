@@ -3,7 +3,7 @@ use Rattle.std.proofs.Common.{◌≡◌, ℕ, Bool, true, false, List, Option, S
 use Rattle.std.specs.Io.KnownBytes.{Keeps}
 use Rattle.std.proofs.KnownBytes.{Keeps-trans}
 use Rattle.rip_log.specs.Codes.{is_read}
-use Rattle.rip_log.specs.Cuts.{FirstLine, LongFirst}
+use Rattle.rip_log.specs.Cuts.{FirstLine, HasLine, LongFirst}
 use Rattle.rip_log.specs.NextCall.{text, lines_behind}
 use Rattle.rip_log.specs.Lines.{lines_of}
 use Rattle.rip_log.specs.Logs.{IfElse}
@@ -27,6 +27,11 @@ pub long-kept : (t m : Option (List ℕ)) → Keeps t m → LongFirst m → Long
 long-kept None m keeps long = tt
 long-kept (Some t) None keeps long = absurd keeps
 long-kept (Some t) (Some m) keeps long = (long.0, long.1, long.2, ap lines_of (sym keeps) ∙ long.3)
+
+pub line-kept : (t m : Option (List ℕ)) → Keeps t m → HasLine m true → HasLine t true
+line-kept None m keeps some = tt
+line-kept (Some t) None keeps some = absurd keeps
+line-kept (Some t) (Some m) keeps some = (some.0, some.1, ap lines_of (sym keeps) ∙ some.2)
 
 failed-kept : (t m new : Option (List ℕ)) (n : ℕ) (code : LogCode) (x : Bool) → Keeps t m → IfElse x (Keeps m new) (IsPastLast m new n code)
     → IfElse x (Keeps t new) (IsPastLast t new n code)

@@ -8,6 +8,7 @@ use Rattle.rip_log.specs.NextCall.{capture_of, line_of}
 use Rattle.rip_log.specs.Lines.{lines_of}
 use Rattle.rip_log.specs.Logs.{Numbered, Log, log_of, log_at, log_in, Gives, IfElse}
 use Rattle.rip_log.specs.LogText.{AreLines, AreRecords, IsBad, IsFault, too_many, bad, LogFault, LogFailed}
+use Rattle.rip_log.specs.LogText.IsBad.{long_line, of_three}
 use Rattle.rip_log.specs.Runs.{IsTaken}
 use Rattle.rip_log.specs.declared.error.LogCode.{LogCode}
 use Rattle.rip_log.specs.declared.error.LogCode.TheVariants.{LongLine, TooManyLines}
@@ -106,13 +107,20 @@ longer [] more [] line after e = absurd (cc e)
 longer [] more (first ∷ before) line after e = absurd (cc e)
 longer (b ∷ text) more before line after e = longer-byte b (b == 10) text more before line after e (λ front l rest h. longer text more front l rest h)
 
+-- a line that is too long is bad by that alone, and no line is bad for their number
+long-past : (line : List ℕ) → IsBad line LongLine → 2048 < length line
+long-past line (long_line past) = past
+long-past line (of_three _ is) = elim is [ ]
+
+none-many : (line : List ℕ) → IsBad line TooManyLines → ⊥
+none-many line (of_three _ is) = elim is [ ]
+
 fault-longer : (n : ℕ) (line whole : List ℕ) (code : LogCode) → ((code ≡ LongLine) ⊎ (code ≡ TooManyLines)) → length line ≤ length whole → IsFault n line code → IsFault n whole code
 fault-longer n line whole code which long (too_many here what) = too_many here what
 fault-longer n line whole code (inl e) long (bad few is) =
-    let past = subst (IsBad line) e is in
-    let past_too : IsBad whole LongLine = omega (arith, long, past) in
-    bad few (subst (IsBad whole) (sym e) past_too)
-fault-longer n line whole code (inr e) long (bad few is) = absurd (subst (IsBad line) e is)
+    let past = long-past line (subst (IsBad line) e is) in
+    bad few (subst (IsBad whole) (sym e) (long_line (omega (arith, long, past))))
+fault-longer n line whole code (inr e) long (bad few is) = absurd (none-many line (subst (IsBad line) e is))
 
 pub LogFault-at_once : (text more : List ℕ) (records : List Numbered) (line : ℕ) (code : LogCode) → ((code ≡ LongLine) ⊎ (code ≡ TooManyLines)) → LogFault text records line code →
     LogFault (text ++ more) records line code

@@ -14,6 +14,8 @@ use Rattle.rip_log.proofs.FieldRelations.{AreFields-fields_of, fields_of-AreFiel
 use Rattle.rip_log.specs.Fields.{fields_of, is_comment}
 use Rattle.rip_log.specs.Lines.{Capture, sized, bytes_of, checked, capture_in, with_sender, three_fields, said_by, unless_skipped, judge_short, judge}
 use Rattle.rip_log.specs.LogText.{AreThreeJudged, BadBy, HasFields, SaysNothing, HasThree, IsSender, HasOthers, IsBad, IsLineJudged, SenderBy}
+use Rattle.rip_log.specs.LogText.BadBy.{bad_datagram, long_datagram, no_digits, no_name, no_sender}
+use Rattle.rip_log.specs.LogText.IsBad.{long_line, no_three, of_three}
 use Rattle.rip_log.proofs.DigitLemmas.{sized-long}
 use Rattle.rip_log.proofs.JudgeLemmas.{judge-long, judge-short}
 use Rattle.rip_log.specs.declared.error.LogCode.{LogCode}
@@ -102,17 +104,7 @@ sized-few bytes h = grind arith
 judged-three : (line : List ℕ) (r : Result (Option Capture) LogCode) → AreThreeJudged (HasThree line) r → IsLineJudged line r
 judged-three line (Ok None) judged = absurd judged
 judged-three line (Ok (Some capture)) judged = judged
-judged-three line (Err codes.LinkName) judged = judged
-judged-three line (Err codes.Sender) judged = judged
-judged-three line (Err codes.Hex) judged = judged
-judged-three line (Err codes.LongDatagram) judged = judged
-judged-three line (Err (codes.Wire e)) judged = judged
-judged-three line (Err codes.LongLine) judged = absurd judged
-judged-three line (Err codes.Fields) judged = absurd judged
-judged-three line (Err codes.TooManyLines) judged = absurd judged
-judged-three line (Err codes.Read) judged = absurd judged
-judged-three line (Err codes.Ended) judged = absurd judged
-judged-three line (Err codes.Memory) judged = absurd judged
+judged-three line (Err code) judged = of_three code judged
 
 module _ (laws : WireLaws) where
   -- from the computed to the words
@@ -123,21 +115,21 @@ module _ (laws : WireLaws) where
       message_in bytes ≡ r
       → AreThreeJudged Has (checked link sender bytes r)
   says-checked Has link digits bytes sender (Ok m) front e few read = record { digits = digits; front = front; bytes = e; few = few; no_fault = no_fault bytes m read }
-  says-checked Has link digits bytes sender (Err f) front e few read = (link, digits, bytes, sender, front, e, few, (laws.faults bytes f.code f.at).0 read)
+  says-checked Has link digits bytes sender (Err f) front e few read = bad_datagram link digits bytes sender f front e few ((laws.faults bytes f.code f.at).0 read)
 
   says-sized : (Has : Fielding) (link digits bytes : List ℕ) (sender : ℕ) (x : Bool) → SenderBy Has link digits sender → decode_of digits ≡ Ok bytes → nat_lt 504 (length bytes) ≡ x
       → AreThreeJudged Has (capture_in link sender (cond x (Err codes.LongDatagram) (Ok bytes)))
-  says-sized Has link digits bytes sender true front e h = (link, digits, bytes, sender, front, e, many-of bytes h)
+  says-sized Has link digits bytes sender true front e h = long_datagram link digits bytes sender front e (many-of bytes h)
   says-sized Has link digits bytes sender false front e h = says-checked Has link digits bytes sender (message_in bytes) front e (few-of bytes h) refl
 
   says-digits : (Has : Fielding) (link digits : List ℕ) (sender : ℕ) (r : Result (List ℕ) FromHexError) → SenderBy Has link digits sender → decode_of digits ≡ r →
       AreThreeJudged Has (capture_in link sender (sized r))
   says-digits Has link digits sender (Ok bytes) front e = says-sized Has link digits bytes sender (nat_lt 504 (length bytes)) front e refl
-  says-digits Has link digits sender (Err f) front e = (link, digits, sender, front, λ bytes is. cc (e, is))
+  says-digits Has link digits sender (Err f) front e = no_digits link digits sender front (λ bytes is. cc (e, is))
 
   says-sender : (Has : Fielding) (link sender digits : List ℕ) (o : Option ℕ) → Has link sender digits → IsName link → address_in sender ≡ o → AreThreeJudged Has (with_sender link o digits)
   says-sender Has link sender digits None three name e =
-      (link, sender, digits, three, name, λ address is. cc (e, (laws.addresses sender address).1 (is.fits, is.spelled)))
+      no_sender link sender digits three name (λ address is. cc (e, (laws.addresses sender address).1 (is.fits, is.spelled)))
   says-sender Has link sender digits (Some a) three name e =
       let found = (laws.addresses sender a).0 e in
       says-digits Has link digits a (decode_of digits) (record { sender = sender; three = three; name = name; is_sender = record { fits = found.0; spelled = found.1 } }) refl
@@ -148,7 +140,7 @@ module _ (laws : WireLaws) where
   says-named : (Has : Fielding) (link sender digits : List ℕ) (x : Bool) → Has link sender digits → is_name link ≡ x
       → AreThreeJudged Has (cond x (with_sender link (address_in sender) digits) (Err codes.LinkName))
   says-named Has link sender digits true three e = says-sender Has link sender digits (address_in sender) three ((laws.names link).0 e) refl
-  says-named Has link sender digits false three e = (link, sender, digits, three, no-name link e)
+  says-named Has link sender digits false three e = no_name link sender digits three (no-name link e)
 
   -- three fields are what is computed of them
   pub says-three : (Has : Fielding) (link sender digits : List ℕ) → Has link sender digits → AreThreeJudged Has (three_fields link sender digits)
@@ -156,10 +148,10 @@ module _ (laws : WireLaws) where
 
   says-said : (line : List ℕ) (fields : List (List ℕ)) → HasFields line fields → ¬ SaysNothing fields → IsLineJudged line (said_by fields)
   says-said line [] has says = absurd (says tt)
-  says-said line (a ∷ []) has says = others line (a ∷ []) has says (λ e. omega (arith, e))
-  says-said line (a ∷ b ∷ []) has says = others line (a ∷ b ∷ []) has says (λ e. omega (arith, e))
+  says-said line (a ∷ []) has says = no_three (others line (a ∷ []) has says (λ e. omega (arith, e)))
+  says-said line (a ∷ b ∷ []) has says = no_three (others line (a ∷ b ∷ []) has says (λ e. omega (arith, e)))
   says-said line (a ∷ b ∷ c ∷ []) has says = judged-three line (three_fields a b c) (says-three (HasThree line) a b c (record { has_fields = has; says = says }))
-  says-said line (a ∷ b ∷ c ∷ d ∷ more) has says = others line (a ∷ b ∷ c ∷ d ∷ more) has says (λ e. omega (arith, e))
+  says-said line (a ∷ b ∷ c ∷ d ∷ more) has says = no_three (others line (a ∷ b ∷ c ∷ d ∷ more) has says (λ e. omega (arith, e)))
 
   says-comment : (line first : List ℕ) (rest : List (List ℕ)) (x : Bool) → HasFields line (first ∷ rest) → is_comment (first ∷ rest) ≡ x → IsLineJudged line (cond x (Ok None) (said_by (first ∷ rest)))
   says-comment line first rest true has e = record { fields = first ∷ rest; has_fields = has; says_nothing = says-yes first rest e }
@@ -170,7 +162,7 @@ module _ (laws : WireLaws) where
   says-fields line (first ∷ rest) has = says-comment line first rest (is_comment (first ∷ rest)) has refl
 
   says-line : (line : List ℕ) (x : Bool) → nat_lt 2048 (length line) ≡ x → IsLineJudged line (cond x (Err codes.LongLine) (judge_short line))
-  says-line line true e = long-of line e
+  says-line line true e = long_line (long-of line e)
   says-line line false e = says-fields line (fields_of (strip_last 13 line)) (HasFields-line line (short-of line e))
 
   IsLineJudged-judge : (line : List ℕ) → IsLineJudged line (judge line)
@@ -211,22 +203,14 @@ module _ (laws : WireLaws) where
     by-bytes link digits bytes address front e few = by-sender link digits address front ∙ ap (capture_in link address) (ap sized e ∙ sized-few bytes few)
 
     bad-by : (code : LogCode) → BadBy Has code → judged ≡ Err code
-    bad-by codes.LinkName bad =
-        reads bad.0 bad.1 bad.2 bad.3
-        ∙ ap (λ (x : Bool). cond x (with_sender bad.0 (address_in bad.1) bad.2) (Err codes.LinkName)) (name-no bad.0 (is_name bad.0) refl bad.4)
-    bad-by codes.Sender bad =
-        reads bad.0 bad.1 bad.2 bad.3
-        ∙ three-named bad.0 bad.1 bad.2 bad.4
-        ∙ ap (λ (o : Option ℕ). with_sender bad.0 o bad.2) (address-no bad.1 (address_in bad.1) refl bad.5)
-    bad-by codes.Hex bad = by-sender bad.0 bad.1 bad.2 bad.3 ∙ ap (capture_in bad.0 bad.2) (sized-bad (decode_of bad.1) bad.4)
-    bad-by codes.LongDatagram bad = by-sender bad.0 bad.1 bad.3 bad.4 ∙ ap (capture_in bad.0 bad.3) (ap sized bad.5 ∙ sized-long bad.2 bad.6)
-    bad-by (codes.Wire f) bad = by-bytes bad.0 bad.1 bad.2 bad.3 bad.4 bad.5 bad.6 ∙ ap (checked bad.0 bad.3 bad.2) ((laws.faults bad.2 f.code f.at).1 bad.7)
-    bad-by codes.LongLine bad = absurd bad
-    bad-by codes.Fields bad = absurd bad
-    bad-by codes.TooManyLines bad = absurd bad
-    bad-by codes.Read bad = absurd bad
-    bad-by codes.Ended bad = absurd bad
-    bad-by codes.Memory bad = absurd bad
+    bad-by code (no_name link sender digits three is) =
+        reads link sender digits three ∙ ap (λ (x : Bool). cond x (with_sender link (address_in sender) digits) (Err codes.LinkName)) (name-no link (is_name link) refl is)
+    bad-by code (no_sender link sender digits three name is) =
+        reads link sender digits three ∙ three-named link sender digits name ∙ ap (λ (o : Option ℕ). with_sender link o digits) (address-no sender (address_in sender) refl is)
+    bad-by code (no_digits link digits address front is) = by-sender link digits address front ∙ ap (capture_in link address) (sized-bad (decode_of digits) is)
+    bad-by code (long_datagram link digits bytes address front e many) = by-sender link digits address front ∙ ap (capture_in link address) (ap sized e ∙ sized-long bytes many)
+    bad-by code (bad_datagram link digits bytes address f front e few fault) =
+        by-bytes link digits bytes address front e few ∙ ap (checked link address bytes) ((laws.faults bytes f.code f.at).1 fault)
 
     pub three-judged : (r : Result (Option Capture) LogCode) → AreThreeJudged Has r → judged ≡ r
     three-judged (Ok None) h = absurd h
@@ -236,17 +220,9 @@ module _ (laws : WireLaws) where
     three-judged (Err code) bad = bad-by code bad
 
   bad-line : (line : List ℕ) (code : LogCode) → IsBad line code → judge line ≡ Err code
-  bad-line line codes.LongLine bad = judge-long line bad
-  bad-line line codes.Fields bad = judge-fields line bad.fields bad.has_fields ∙ said-fields bad.fields bad.says ∙ said-others bad.fields bad.count
-  bad-line line codes.LinkName bad = three-judged (HasThree line) (judge line) (judge-three line) (Err codes.LinkName) bad
-  bad-line line codes.Sender bad = three-judged (HasThree line) (judge line) (judge-three line) (Err codes.Sender) bad
-  bad-line line codes.Hex bad = three-judged (HasThree line) (judge line) (judge-three line) (Err codes.Hex) bad
-  bad-line line codes.LongDatagram bad = three-judged (HasThree line) (judge line) (judge-three line) (Err codes.LongDatagram) bad
-  bad-line line (codes.Wire f) bad = three-judged (HasThree line) (judge line) (judge-three line) (Err (codes.Wire f)) bad
-  bad-line line codes.TooManyLines bad = absurd bad
-  bad-line line codes.Read bad = absurd bad
-  bad-line line codes.Ended bad = absurd bad
-  bad-line line codes.Memory bad = absurd bad
+  bad-line line code (long_line long) = judge-long line long
+  bad-line line code (no_three other) = judge-fields line other.fields other.has_fields ∙ said-fields other.fields other.says ∙ said-others other.fields other.count
+  bad-line line code (of_three _ bad) = three-judged (HasThree line) (judge line) (judge-three line) (Err code) bad
 
   pub judge-IsLineJudged : (line : List ℕ) (r : Result (Option Capture) LogCode) → IsLineJudged line r → judge line ≡ r
   judge-IsLineJudged line (Ok None) skipped = judge-fields line skipped.fields skipped.has_fields ∙ skipped-fields skipped.fields skipped.says_nothing

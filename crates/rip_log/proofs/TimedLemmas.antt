@@ -9,10 +9,11 @@ use Rattle.rip_log.specs.Lines.{Capture, lines_of, three_fields}
 use Rattle.rip_log.specs.LogText.{AreThreeJudged, HasFields, IsSkipped, SaysNothing}
 use Rattle.rip_log.specs.TimedParts.{AreTimed}
 use Rattle.rip_log.specs.TimedCall.{TakesTimed, TimedCall, timed_lines, timed_text}
-use Rattle.rip_log.specs.TimedText.{HasNoTime, HasTimed, IsEarly, IsTimedLine, TimedSaid, untimed}
+use Rattle.rip_log.specs.TimedText.{HasTimed, IsEarly, IsTimedLine, IsUntimed, TimedSaid, untimed}
+use Rattle.rip_log.specs.TimedText.IsUntimed.{long_line, no_time}
 use Rattle.rip_log.specs.Wholes.{rest_of}
 use Rattle.rip_log.specs.declared.error.LogCode.{LogCode}
-use Rattle.rip_log.specs.declared.error.LogCode.TheVariants.{LongLine}
+use Rattle.rip_log.specs.declared.error.LogCode.TheVariants.{Fields, LongLine}
 use Rattle.rip_log.specs.declared.timed.reader.TimedReader.{TimedReader}
 use Rattle.rip_log.proofs.CarryLemmas.{first-kept}
 use Rattle.rip_log.proofs.JudgeRelations.{HasFields-line, WireLaws, fields-same, says-no, says-three, says-yes}
@@ -34,13 +35,13 @@ skipped-line line short h = record {
 }
 
 pub untimed-line : (line : List ℕ) → length line ≤ 2048 → 0 < length (fields_of (strip_last 13 line)) → is_comment (fields_of (strip_last 13 line)) ≡ false
-    → ((micros : ℕ) (link sender digits : List ℕ) → ¬ AreTimed (fields_of (strip_last 13 line)) micros link sender digits) → HasNoTime line
-untimed-line line short some plain none = record {
+    → ((micros : ℕ) (link sender digits : List ℕ) → ¬ AreTimed (fields_of (strip_last 13 line)) micros link sender digits) → IsUntimed line Fields
+untimed-line line short some plain none = no_time (record {
   fields = fields_of (strip_last 13 line);
   has_fields = HasFields-line line short;
   says = says_something (fields_of (strip_last 13 line)) some plain;
   other = λ micros link sender digits has. none micros link sender digits (has.time, fields-same line (has.time ∷ link ∷ sender ∷ digits ∷ []) has.has_fields, has.is_time);
-}
+})
 
 -- what is said of the three fields behind the time is said of the line
 pub timed-line : WireLaws → (line : List ℕ) (micros : ℕ) (link sender digits : List ℕ) (r : Result (Option Capture) LogCode) → length line ≤ 2048
@@ -57,7 +58,7 @@ long-taken (Some t) (Some m) None long keeps drops = absurd drops.1
 long-taken (Some t) (Some m) (Some rest) long keeps drops =
     let first = first-kept (Some t) (Some m) (Some rest) drops.0 keeps drops.1 in
     let same : long.0 ≡ drops.0 = cc (long.3, first.0) in
-    (drops.0, first, subst (λ (l : List ℕ). 2048 < length l) same long.2)
+    (drops.0, first, long_line (subst (λ (l : List ℕ). 2048 < length l) same long.2))
 
 pub taken-kept : (t m left : Option (List ℕ)) (said : Option TimedSaid) → Keeps t m → TakesTimed m left said → TakesTimed t left said
 taken-kept None m left said keeps taken = tt

@@ -12,6 +12,7 @@ use Rattle.rip_log.specs.LogText.{AreRecords, AreThreeJudged, IsRecord, IsSkippe
 use Rattle.rip_log.specs.Logs.{Numbered}
 use Rattle.rip_log.specs.TimedParts.{AreTimed}
 use Rattle.rip_log.specs.TimedText.{AreCaptured, AreTimedOf, AreTimedSaid, HasTimed, IsCaptured, IsTimedLine, IsTimedOf, LineSaid, TimedSaid, captured, bad, untimed}
+use Rattle.rip_log.specs.TimedText.IsUntimed.{long_line}
 use Rattle.rip_log.specs.Times.{IsDateTime, IsTimeOfDay, IsTimeText, micros_of, time_text}
 use Rattle.rip_log.specs.declared.error.LogCode.{LogCode}
 use Rattle.rip_log.specs.declared.error.LogCode.TheVariants.{LongLine, Fields}
@@ -133,7 +134,7 @@ judged_says line micros (Err code) h = (Some (bad micros code), h)
 module _ (laws : WireLaws) where
   line-says : (line : List ℕ) → (said : Option TimedSaid) × IsTimedLine line said
   line-says line = elim (cases_lt 2048 (length line)) [
-    | inl long ↦ (Some (untimed LongLine), long)
+    | inl long ↦ (Some (untimed LongLine), long_line long)
     | inr short ↦ of_fields short (fields_of (strip_last 13 line)) refl
   ]
     where

@@ -6,6 +6,7 @@ use Rattle.rip_wire.specs.Address.{address_text}
 use Rattle.rip_wire.specs.Faults.{WireFault}
 use Rattle.rip_wire.specs.Name.{IsName}
 use Rattle.rip_wire.specs.declared.error.WireCode.{WireCode}
+use Rattle.rip_wire.specs.declared.error.WireError.{WireError}
 use Rattle.rip_log.specs.Lines.{Capture}
 use Rattle.rip_log.specs.Logs.{Numbered}
 use Rattle.rip_log.specs.declared.error.LogCode.{LogCode}
@@ -118,22 +119,19 @@ pub record RecordBy (Has : List ℕ → List ℕ → List ℕ → Type 0) (captu
   pub few : length capture.datagram ≤ MOST_BYTES
   pub no_fault : (code : WireCode) (at : ℕ) → ¬ WireFault capture.datagram code at
 
--- three fields are bad, by the first of their faults; no other code is one of three fields
-abbrev pub BadBy : (List ℕ → List ℕ → List ℕ → Type 0) → LogCode → Type 0
-BadBy Has LinkName = (link sender digits : List ℕ) × Has link sender digits × ¬ IsName link
-BadBy Has Sender =
-    (link sender digits : List ℕ) × Has link sender digits × IsName link
-    × ((address : ℕ) → ¬ IsSender sender address)
-BadBy Has Hex =
-    (link digits : List ℕ) × (address : ℕ) × SenderBy Has link digits address
-    × ((bytes : List ℕ) → decode_of digits ≢ Ok bytes)
-BadBy Has LongDatagram =
-    (link digits bytes : List ℕ) × (address : ℕ) × SenderBy Has link digits address
-    × (decode_of digits ≡ Ok bytes) × (MOST_BYTES < length bytes)
-BadBy Has (Wire e) =
-    (link digits bytes : List ℕ) × (address : ℕ) × SenderBy Has link digits address
-    × (decode_of digits ≡ Ok bytes) × (length bytes ≤ MOST_BYTES) × WireFault bytes e.code e.at
-BadBy Has other = ⊥
+-- three fields are bad, by the first of their faults
+pub data BadBy (Has : List ℕ → List ℕ → List ℕ → Type 0) : LogCode → Type 0 where
+  no_name : (link sender digits : List ℕ) → Has link sender digits → ¬ IsName link
+      → BadBy Has LinkName
+  no_sender : (link sender digits : List ℕ) → Has link sender digits → IsName link
+      → ((address : ℕ) → ¬ IsSender sender address) → BadBy Has Sender
+  no_digits : (link digits : List ℕ) (address : ℕ) → SenderBy Has link digits address
+      → ((bytes : List ℕ) → decode_of digits ≢ Ok bytes) → BadBy Has Hex
+  long_datagram : (link digits bytes : List ℕ) (address : ℕ) → SenderBy Has link digits address
+      → decode_of digits ≡ Ok bytes → MOST_BYTES < length bytes → BadBy Has LongDatagram
+  bad_datagram : (link digits bytes : List ℕ) (address : ℕ) (e : WireError)
+      → SenderBy Has link digits address → decode_of digits ≡ Ok bytes
+      → length bytes ≤ MOST_BYTES → WireFault bytes e.code e.at → BadBy Has (Wire e)
 
 -- three fields are judged: they are a record, or are bad
 abbrev pub AreThreeJudged : (List ℕ → List ℕ → List ℕ → Type 0) →
@@ -157,11 +155,11 @@ pub record HasOthers (line : List ℕ) : Type 0 where
   pub says : ¬ SaysNothing fields
   pub count : length fields ≢ 3
 
--- a line that is bad by itself, by the first of its faults; no other code is one of a line
-abbrev pub IsBad : List ℕ → LogCode → Type 0
-IsBad line LongLine = MOST_LINE_BYTES < length line
-IsBad line Fields = HasOthers line
-IsBad line other = BadBy (HasThree line) other
+-- a line that is bad by itself, by the first of its faults
+pub data IsBad (line : List ℕ) : LogCode → Type 0 where
+  long_line : MOST_LINE_BYTES < length line → IsBad line LongLine
+  no_three : HasOthers line → IsBad line Fields
+  of_three : (code : LogCode) → BadBy (HasThree line) code → IsBad line code
 
 -- a line is judged: it is skipped, or is a record, or is bad
 abbrev pub IsLineJudged : List ℕ → Result (Option Capture) LogCode → Type 0

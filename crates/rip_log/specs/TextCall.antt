@@ -51,11 +51,11 @@ TakesBare old new bare =
 
 -- the next line of known text, of which n others come before, is bad by this code, and it is still
 -- there; or the source failed
-abbrev pub IsBadNext : Option (List ℕ) → Option (List ℕ) → ℕ → LogCode → Type 0
-IsBadNext old new n codes.LongLine = (n < MOST_LINES) × LongFirst old × Keeps old new
-IsBadNext old new n codes.TooManyLines = (n ≡ MOST_LINES) × HasLine old true × Keeps old new
-IsBadNext old new n codes.Read = Keeps old new
-IsBadNext old new n other = ⊥
+pub data IsBadNext (old new : Option (List ℕ)) (n : ℕ) : LogCode → Type 0 where
+  long_line : n < MOST_LINES → LongFirst old → Keeps old new → IsBadNext old new n codes.LongLine
+  many_lines : n ≡ MOST_LINES → HasLine old true → Keeps old new
+      → IsBadNext old new n codes.TooManyLines
+  unread : Keeps old new → IsBadNext old new n codes.Read
 
 -- what a call takes off known text, of which n lines are behind, each line seen by view: its first
 -- line, or nothing at its end or a fault

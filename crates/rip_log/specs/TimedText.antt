@@ -21,6 +21,11 @@ pub record HasNoTime (line : List ℕ) : Type 0 where
   pub says : ¬ SaysNothing fields
   pub other : (micros : ℕ) (link sender digits : List ℕ) → ¬ HasTimed line micros link sender digits
 
+-- a line that is bad and has no time
+pub data IsUntimed (line : List ℕ) : LogCode → Type 0 where
+  long_line : MOST_LINE_BYTES < length line → IsUntimed line LongLine
+  no_time : HasNoTime line → IsUntimed line Fields
+
 -- what a line says that is not skipped: it is a record of a time, or bad at a time, by the three
 -- fields behind it; or it is bad and has no time
 pub data TimedSaid : Type 0 where
@@ -32,9 +37,7 @@ pub data TimedSaid : Type 0 where
 abbrev pub SaysTimed : List ℕ → TimedSaid → Type 0
 SaysTimed line (captured micros capture) = RecordBy (HasTimed line micros) capture
 SaysTimed line (bad micros code) = BadBy (HasTimed line micros) code
-SaysTimed line (untimed LongLine) = MOST_LINE_BYTES < length line
-SaysTimed line (untimed Fields) = HasNoTime line
-SaysTimed line (untimed other) = ⊥
+SaysTimed line (untimed code) = IsUntimed line code
 
 -- a line is skipped, or says this
 abbrev pub IsTimedLine : List ℕ → Option TimedSaid → Type 0

@@ -7,13 +7,13 @@ use Rattle.std.proofs.lemmas.List.{length-append}
 use Rattle.rip_plan.specs.Network.{Network}
 use Rattle.rip_log.specs.Codes.{is_read as is_read_code}
 use Rattle.rip_log.specs.Wholes.{Begins}
-use Rattle.rip_log.specs.Cuts.{DropsLines, HasLine}
+use Rattle.rip_log.specs.Cuts.{DropsLines, HasLine, LongFirst}
 use Rattle.rip_log.specs.Fields.{fields_of}
 use Rattle.rip_log.specs.Lines.{lines_of}
 use Rattle.rip_log.specs.Logs.{IfElse}
 use Rattle.rip_log.specs.TextCall.{IsBadNext, TakesBare}
+use Rattle.rip_log.specs.TextCall.IsBadNext.{long_line, many_lines, unread}
 use Rattle.rip_log.specs.declared.error.LogCode.{LogCode}
-use Rattle.rip_log.specs.declared.error.LogCode.TheVariants as codes
 use Rattle.rip_routes.specs.declared.error.RoutesCause.{RoutesCause}
 use Rattle.rip_routes.specs.declared.error.RoutesCause.TheVariants as causes
 use Rattle.rip_routes.specs.declared.error.RoutesError.{RoutesError}
@@ -51,8 +51,8 @@ short_line : (n : Network) (t : OwnTables) (line : List ℕ) → length line ≤
 short_line n t line short =
     let fits : nat_lt 2048 (length line) ≡ false = grind (arith, short) in ap (λ b. cond b (Err causes.LongLine) (tell_said t (told_by_bare n (strip_last 13 line)))) fits
 
-long_line : (n : Network) (t : OwnTables) (line : List ℕ) → 2048 < length line → tell_line n t line ≡ Err causes.LongLine
-long_line n t line long =
+long_told : (n : Network) (t : OwnTables) (line : List ℕ) → 2048 < length line → tell_line n t line ≡ Err causes.LongLine
+long_told n t line long =
     let past : nat_lt 2048 (length line) ≡ true = grind (arith, long) in ap (λ b. cond b (Err causes.LongLine) (tell_said t (told_by_bare n (strip_last 13 line)))) past
 
 -- one more line is told
@@ -120,8 +120,8 @@ fault_at n text m k t line rest cause passed lines fault =
     ∙ ap (λ (j : ℕ). tell_lines n j (line ∷ rest) t) (omega (arith, passed.count))
     ∙ fault
 
-many_lines : (n : Network) (k : ℕ) (t : OwnTables) (line : List ℕ) (rest : List (List ℕ)) → k ≡ 1000000 → tell_lines n k (line ∷ rest) t ≡ Err (record { line = k + 1; cause = causes.TooManyLines })
-many_lines n k t line rest is =
+many_told : (n : Network) (k : ℕ) (t : OwnTables) (line : List ℕ) (rest : List (List ℕ)) → k ≡ 1000000 → tell_lines n k (line ∷ rest) t ≡ Err (record { line = k + 1; cause = causes.TooManyLines })
+many_told n k t line rest is =
     let full : nat_le 1000000 k ≡ true = grind (arith, is) in
     ap (λ b. cond b (Err (record { line = k + 1; cause = causes.TooManyLines })) (then_tell (k + 1) (tell_line n t line) (tell_lines n (k + 1) rest))) full
 
@@ -129,29 +129,21 @@ module _ {G : Type 0} (view : G → OwnTables) (n : Network) where
   -- a line that the reader refuses, or could not read
   pub told_bad : (text mid left : Option (List ℕ)) (k : ℕ) (t : OwnTables) (code : LogCode) → PassedKnown n text mid k t → IsBadNext mid left k code
       → ToldOutcome view n text left (Err (record { line = k + 1; cause = cause_of code }))
-  told_bad text mid left k t codes.LongLine passed bad = long text mid left passed bad
+  told_bad text mid left k t code passed (long_line few first keeps) = long text mid left passed first
     where
-      long : (text mid left : Option (List ℕ)) → PassedKnown n text mid k t → IsBadNext mid left k codes.LongLine → OutcomeKnown n text (Err (record { line = k + 1; cause = causes.LongLine }))
-      long None mid left passed bad = tt
-      long (Some text) None left passed bad = absurd passed
-      long (Some text) (Some m) left passed bad =
-          let (line, rest, past, lines) = bad.1 in
-          fault_at n text m k t line rest causes.LongLine passed lines (next_line n k line rest t (Err causes.LongLine) bad.0 (long_line n t line past))
-  told_bad text mid left k t codes.TooManyLines passed bad = many text mid left passed bad
+      long : (text mid left : Option (List ℕ)) → PassedKnown n text mid k t → LongFirst mid → OutcomeKnown n text (Err (record { line = k + 1; cause = causes.LongLine }))
+      long None mid left passed first = tt
+      long (Some text) None left passed first = absurd passed
+      long (Some text) (Some m) left passed first =
+          let (line, rest, past, lines) = first in
+          fault_at n text m k t line rest causes.LongLine passed lines (next_line n k line rest t (Err causes.LongLine) few (long_told n t line past))
+  told_bad text mid left k t code passed (many_lines all more keeps) = many text mid left passed more
     where
-      many : (text mid left : Option (List ℕ)) → PassedKnown n text mid k t → IsBadNext mid left k codes.TooManyLines → OutcomeKnown n text (Err (record { line = k + 1; cause = causes.TooManyLines }))
-      many None mid left passed bad = tt
-      many (Some text) None left passed bad = absurd passed
-      many (Some text) (Some m) left passed bad = let (line, rest, lines) = bad.1 in fault_at n text m k t line rest causes.TooManyLines passed lines (many_lines n k t line rest bad.0)
-  told_bad text mid left k t codes.Read passed bad = (k, t, passed_kept n text mid left k t passed bad, refl)
-  told_bad text mid left k t codes.Fields passed bad = absurd bad
-  told_bad text mid left k t codes.LinkName passed bad = absurd bad
-  told_bad text mid left k t codes.Sender passed bad = absurd bad
-  told_bad text mid left k t codes.Hex passed bad = absurd bad
-  told_bad text mid left k t codes.LongDatagram passed bad = absurd bad
-  told_bad text mid left k t (codes.Wire e) passed bad = absurd bad
-  told_bad text mid left k t codes.Ended passed bad = absurd bad
-  told_bad text mid left k t codes.Memory passed bad = absurd bad
+      many : (text mid left : Option (List ℕ)) → PassedKnown n text mid k t → HasLine mid true → OutcomeKnown n text (Err (record { line = k + 1; cause = causes.TooManyLines }))
+      many None mid left passed more = tt
+      many (Some text) None left passed more = absurd passed
+      many (Some text) (Some m) left passed more = let (line, rest, lines) = more in fault_at n text m k t line rest causes.TooManyLines passed lines (many_told n k t line rest all)
+  told_bad text mid left k t code passed (unread keeps) = (k, t, passed_kept n text mid left k t passed keeps, refl)
 
   stuck : (text mid left : Option (List ℕ)) (k : ℕ) (t : OwnTables) (bare : List ℕ) → PassedKnown n text mid k t → TakesBare mid left bare → WantsAt n t bare → StuckKnown n text (k + 1)
   stuck None mid left k t bare passed takes wants = tt
@@ -227,31 +219,15 @@ dropped_none (Some text) = ([], [], refl, refl, omega arith)
 
 -- where the reader's line is bad, the text stays
 pub bad_keeps : (mid left : Option (List ℕ)) (k : ℕ) (code : LogCode) → IsBadNext mid left k code → Keeps mid left
-bad_keeps mid left k codes.LongLine bad = bad.2
-bad_keeps mid left k codes.TooManyLines bad = bad.2
-bad_keeps mid left k codes.Read bad = bad
-bad_keeps mid left k codes.Fields bad = absurd bad
-bad_keeps mid left k codes.LinkName bad = absurd bad
-bad_keeps mid left k codes.Sender bad = absurd bad
-bad_keeps mid left k codes.Hex bad = absurd bad
-bad_keeps mid left k codes.LongDatagram bad = absurd bad
-bad_keeps mid left k (codes.Wire e) bad = absurd bad
-bad_keeps mid left k codes.Ended bad = absurd bad
-bad_keeps mid left k codes.Memory bad = absurd bad
+bad_keeps mid left k code (long_line few first keeps) = keeps
+bad_keeps mid left k code (many_lines all more keeps) = keeps
+bad_keeps mid left k code (unread keeps) = keeps
 
 -- a reader's error is Read exactly where its cause is
 pub code_read : (mid left : Option (List ℕ)) (k : ℕ) (code : LogCode) → IsBadNext mid left k code → is_read (cause_of code) ≡ is_read_code code
-code_read mid left k codes.LongLine bad = refl
-code_read mid left k codes.TooManyLines bad = refl
-code_read mid left k codes.Read bad = refl
-code_read mid left k codes.Fields bad = absurd bad
-code_read mid left k codes.LinkName bad = absurd bad
-code_read mid left k codes.Sender bad = absurd bad
-code_read mid left k codes.Hex bad = absurd bad
-code_read mid left k codes.LongDatagram bad = absurd bad
-code_read mid left k (codes.Wire e) bad = absurd bad
-code_read mid left k codes.Ended bad = absurd bad
-code_read mid left k codes.Memory bad = absurd bad
+code_read mid left k code (long_line few first keeps) = refl
+code_read mid left k code (many_lines all more keeps) = refl
+code_read mid left k code (unread keeps) = refl
 
 -- what a source has given is a text that it has begun to give
 pub begins_now : (given : List ℕ) (at_end : Bool) → Begins given given at_end

@@ -2,9 +2,10 @@ use Rattle.std.proofs.Common.{rules, ◌<◌, ◌∙◌, arith, ap, refl, subst,
 use Rattle.std.proofs.KnownBytes.{Keeps-trans}
 use Rattle.rip_log.specs.Feeds.{held, text}
 use Rattle.rip_log.specs.Held.{ready_lines}
+use Rattle.rip_log.specs.TextCall.IsBadNext.{long_line, many_lines, unread}
 use Rattle.rip_log.specs.Wholes.{rest_of}
 use Rattle.rip_log.specs.declared.window.Window.{Window}
-use Rattle.rip_log.proofs.CarryLemmas.{long-kept}
+use Rattle.rip_log.proofs.CarryLemmas.{line-kept, long-kept}
 use Rattle.rip_log.proofs.TextLemmas.{bare-taken, ready-held}
 use Rattle.rip_log.proofs.WholeLemmas.{begins_back, went_on}
 use Rattle.rip_log.proofs.text.TextReader.advance.Goals as goal
@@ -19,7 +20,8 @@ returns-in-Err-take_line-clause-call g c =
       gives = λ running whole begins.
           let before = begins_back S.given S.coming S.at_end whole mid.feed.source now.feed.source c.take_line.ensures.went begins in
           let coming = rest_of S.given whole in
-          rw c.stop-in-Err-take_line.ensures.error (Keeps-trans (text coming old.window.feed) (text coming mid.feed) (text coming now.feed) (c.has_line.ensures.text whole before) (c.in-Err-take_line.ensures.kept whole begins));
+          let keeps = Keeps-trans (text coming old.window.feed) (text coming mid.feed) (text coming now.feed) (c.has_line.ensures.text whole before) (c.in-Err-take_line.ensures.kept whole begins) in
+          rw c.stop-in-Err-take_line.ensures.error (unread keeps);
       ended = λ was. cc (was, c.if-self.false);
       behind = search rules;
       numbered = tt;
@@ -50,9 +52,8 @@ returns-in-Ok-Long-clause-call g c =
           let cut = (rw c.in-Ok-Long.field-0-is at c.in-Ok-Long.ensures.cut) whole begins in
           let keeps = c.has_line.ensures.text whole before in
           rw c.stop-in-Ok-Long.ensures.error (
-            omega arith,
-            long-kept (text coming old.window.feed) (text coming mid.feed) keeps cut.0,
-            Keeps-trans (text coming old.window.feed) (text coming mid.feed) (text coming now.feed) keeps cut.1,
+          long_line (omega arith) (long-kept (text coming old.window.feed) (text coming mid.feed) keeps cut.0)
+          (Keeps-trans (text coming old.window.feed) (text coming mid.feed) (text coming now.feed) keeps cut.1)
           );
       ended = λ was. cc (was, c.if-self.false);
       behind = search rules;
@@ -100,3 +101,9 @@ returns-in-Ok-Line-clause-call g c =
           let same = (c.has_line.ensures.unchanged (ready-held _ some)).1 in
           c.take_line.ensures.ready (subst (λ (w : Window g.row.R.Denot). 0 < ready_lines (held w.feed)) (sym same) some) ∙ ap (λ (w : Window g.row.R.Denot). w.feed.source) same;
     }
+
+pub returns-in-Err-clause-call : goal.returns-in-Err-clause-call
+returns-in-Err-clause-call g c = rw c.stop-in-Err.ensures.error (search (rules, unread))
+
+pub returns-then-self-ge-MOST_LINES-clause-call : goal.returns-then-self-ge-MOST_LINES-clause-call
+returns-then-self-ge-MOST_LINES-clause-call g c = rw c.stop-then-self-ge-MOST_LINES.ensures.error (search (rules, many_lines, line-kept))
