@@ -107,7 +107,7 @@ longer [] more [] line after e = absurd (cc e)
 longer [] more (first ∷ before) line after e = absurd (cc e)
 longer (b ∷ text) more before line after e = longer-byte b (b == 10) text more before line after e (λ front l rest h. longer text more front l rest h)
 
--- a line that is too long is bad by that alone, and no line is bad for their number
+-- a line that is bad by LongLine is too long; by itself none is bad by TooManyLines
 long-past : (line : List ℕ) → IsBad line LongLine → 2048 < length line
 long-past line (long_line past) = past
 long-past line (of_three _ is) = elim is [ ]

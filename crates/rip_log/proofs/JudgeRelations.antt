@@ -14,8 +14,8 @@ use Rattle.rip_log.proofs.FieldRelations.{AreFields-fields_of, fields_of-AreFiel
 use Rattle.rip_log.specs.Fields.{fields_of, is_comment}
 use Rattle.rip_log.specs.Lines.{Capture, sized, bytes_of, checked, capture_in, with_sender, three_fields, said_by, unless_skipped, judge_short, judge}
 use Rattle.rip_log.specs.LogText.{AreThreeJudged, BadBy, HasFields, SaysNothing, HasThree, IsSender, HasOthers, IsBad, IsLineJudged, SenderBy}
-use Rattle.rip_log.specs.LogText.BadBy.{bad_datagram, long_datagram, no_digits, no_name, no_sender}
-use Rattle.rip_log.specs.LogText.IsBad.{long_line, no_three, of_three}
+use Rattle.rip_log.specs.LogText.BadBy.{no_datagram, long_datagram, no_hex, no_name, no_sender}
+use Rattle.rip_log.specs.LogText.IsBad.{long_line, other_fields, of_three}
 use Rattle.rip_log.proofs.DigitLemmas.{sized-long}
 use Rattle.rip_log.proofs.JudgeLemmas.{judge-long, judge-short}
 use Rattle.rip_log.specs.declared.error.LogCode.{LogCode}
@@ -115,7 +115,7 @@ module _ (laws : WireLaws) where
       message_in bytes ≡ r
       → AreThreeJudged Has (checked link sender bytes r)
   says-checked Has link digits bytes sender (Ok m) front e few read = record { digits = digits; front = front; bytes = e; few = few; no_fault = no_fault bytes m read }
-  says-checked Has link digits bytes sender (Err f) front e few read = bad_datagram link digits bytes sender f front e few ((laws.faults bytes f.code f.at).0 read)
+  says-checked Has link digits bytes sender (Err f) front e few read = no_datagram link digits bytes sender f front e few ((laws.faults bytes f.code f.at).0 read)
 
   says-sized : (Has : Fielding) (link digits bytes : List ℕ) (sender : ℕ) (x : Bool) → SenderBy Has link digits sender → decode_of digits ≡ Ok bytes → nat_lt 504 (length bytes) ≡ x
       → AreThreeJudged Has (capture_in link sender (cond x (Err codes.LongDatagram) (Ok bytes)))
@@ -125,7 +125,7 @@ module _ (laws : WireLaws) where
   says-digits : (Has : Fielding) (link digits : List ℕ) (sender : ℕ) (r : Result (List ℕ) FromHexError) → SenderBy Has link digits sender → decode_of digits ≡ r →
       AreThreeJudged Has (capture_in link sender (sized r))
   says-digits Has link digits sender (Ok bytes) front e = says-sized Has link digits bytes sender (nat_lt 504 (length bytes)) front e refl
-  says-digits Has link digits sender (Err f) front e = no_digits link digits sender front (λ bytes is. cc (e, is))
+  says-digits Has link digits sender (Err f) front e = no_hex link digits sender front (λ bytes is. cc (e, is))
 
   says-sender : (Has : Fielding) (link sender digits : List ℕ) (o : Option ℕ) → Has link sender digits → IsName link → address_in sender ≡ o → AreThreeJudged Has (with_sender link o digits)
   says-sender Has link sender digits None three name e =
@@ -148,10 +148,10 @@ module _ (laws : WireLaws) where
 
   says-said : (line : List ℕ) (fields : List (List ℕ)) → HasFields line fields → ¬ SaysNothing fields → IsLineJudged line (said_by fields)
   says-said line [] has says = absurd (says tt)
-  says-said line (a ∷ []) has says = no_three (others line (a ∷ []) has says (λ e. omega (arith, e)))
-  says-said line (a ∷ b ∷ []) has says = no_three (others line (a ∷ b ∷ []) has says (λ e. omega (arith, e)))
+  says-said line (a ∷ []) has says = other_fields (others line (a ∷ []) has says (λ e. omega (arith, e)))
+  says-said line (a ∷ b ∷ []) has says = other_fields (others line (a ∷ b ∷ []) has says (λ e. omega (arith, e)))
   says-said line (a ∷ b ∷ c ∷ []) has says = judged-three line (three_fields a b c) (says-three (HasThree line) a b c (record { has_fields = has; says = says }))
-  says-said line (a ∷ b ∷ c ∷ d ∷ more) has says = no_three (others line (a ∷ b ∷ c ∷ d ∷ more) has says (λ e. omega (arith, e)))
+  says-said line (a ∷ b ∷ c ∷ d ∷ more) has says = other_fields (others line (a ∷ b ∷ c ∷ d ∷ more) has says (λ e. omega (arith, e)))
 
   says-comment : (line first : List ℕ) (rest : List (List ℕ)) (x : Bool) → HasFields line (first ∷ rest) → is_comment (first ∷ rest) ≡ x → IsLineJudged line (cond x (Ok None) (said_by (first ∷ rest)))
   says-comment line first rest true has e = record { fields = first ∷ rest; has_fields = has; says_nothing = says-yes first rest e }
@@ -207,9 +207,9 @@ module _ (laws : WireLaws) where
         reads link sender digits three ∙ ap (λ (x : Bool). cond x (with_sender link (address_in sender) digits) (Err codes.LinkName)) (name-no link (is_name link) refl is)
     bad-by code (no_sender link sender digits three name is) =
         reads link sender digits three ∙ three-named link sender digits name ∙ ap (λ (o : Option ℕ). with_sender link o digits) (address-no sender (address_in sender) refl is)
-    bad-by code (no_digits link digits address front is) = by-sender link digits address front ∙ ap (capture_in link address) (sized-bad (decode_of digits) is)
+    bad-by code (no_hex link digits address front is) = by-sender link digits address front ∙ ap (capture_in link address) (sized-bad (decode_of digits) is)
     bad-by code (long_datagram link digits bytes address front e many) = by-sender link digits address front ∙ ap (capture_in link address) (ap sized e ∙ sized-long bytes many)
-    bad-by code (bad_datagram link digits bytes address f front e few fault) =
+    bad-by code (no_datagram link digits bytes address f front e few fault) =
         by-bytes link digits bytes address front e few ∙ ap (checked link address bytes) ((laws.faults bytes f.code f.at).1 fault)
 
     pub three-judged : (r : Result (Option Capture) LogCode) → AreThreeJudged Has r → judged ≡ r
@@ -221,7 +221,7 @@ module _ (laws : WireLaws) where
 
   bad-line : (line : List ℕ) (code : LogCode) → IsBad line code → judge line ≡ Err code
   bad-line line code (long_line long) = judge-long line long
-  bad-line line code (no_three other) = judge-fields line other.fields other.has_fields ∙ said-fields other.fields other.says ∙ said-others other.fields other.count
+  bad-line line code (other_fields other) = judge-fields line other.fields other.has_fields ∙ said-fields other.fields other.says ∙ said-others other.fields other.count
   bad-line line code (of_three _ bad) = three-judged (HasThree line) (judge line) (judge-three line) (Err code) bad
 
   pub judge-IsLineJudged : (line : List ℕ) (r : Result (Option Capture) LogCode) → IsLineJudged line r → judge line ≡ r

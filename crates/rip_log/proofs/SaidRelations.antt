@@ -10,8 +10,8 @@ use Rattle.rip_log.specs.Said.{Origin, Said, captured, bad, SaidAt, AllSaid, Are
 use Rattle.rip_log.specs.Lines.{Capture, lines_of, judge}
 use Rattle.rip_log.specs.Logs.{Log, Numbered, faulty_log, log_of, with_line}
 use Rattle.rip_log.specs.LogText.{AreLines, HasSender, IsBad, IsLineJudged, IsSkipped}
-use Rattle.rip_log.specs.LogText.BadBy.{bad_datagram, long_datagram, no_digits, no_name, no_sender}
-use Rattle.rip_log.specs.LogText.IsBad.{long_line, no_three, of_three}
+use Rattle.rip_log.specs.LogText.BadBy.{no_datagram, long_datagram, no_hex, no_name, no_sender}
+use Rattle.rip_log.specs.LogText.IsBad.{long_line, other_fields, of_three}
 use Rattle.rip_log.specs.declared.error.LogCode.{LogCode}
 use Rattle.rip_log.specs.declared.error.LogCode.TheVariants as codes
 use Rattle.rip_log.proofs.SaidLemmas.{first-said, many-said}
@@ -55,12 +55,12 @@ module _ (judges : Judges) (addresses : Addresses) where
 
   is-origin : (line : List ℕ) (code : LogCode) → IsBad line code → IsOrigin line code (origin_of line code)
   is-origin line code (long_line long) = refl
-  is-origin line code (no_three other) = refl
+  is-origin line code (other_fields other) = refl
   is-origin line code (of_three _ (no_name link sender digits three is)) = refl
   is-origin line code (of_three _ (no_sender link sender digits three name is)) = refl
-  is-origin line code (of_three _ (no_digits link digits address front is)) = refl
+  is-origin line code (of_three _ (no_hex link digits address front is)) = refl
   is-origin line code (of_three _ (long_datagram link digits bytes address front e many)) = known-origin line link digits address code refl front
-  is-origin line code (of_three _ (bad_datagram link digits bytes address f front e few fault)) = known-origin line link digits address code refl front
+  is-origin line code (of_three _ (no_datagram link digits bytes address f front e few fault)) = known-origin line link digits address code refl front
 
   origin-is : (line : List ℕ) (code : LogCode) (o : Option Origin) → IsOrigin line code o → origin_of line code ≡ o
   origin-is line code None of = ap (λ (x : Bool). cond x (origin_in (fields_of (strip_last 13 line))) None) of

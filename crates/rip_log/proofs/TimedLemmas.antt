@@ -10,7 +10,7 @@ use Rattle.rip_log.specs.LogText.{AreThreeJudged, HasFields, IsSkipped, SaysNoth
 use Rattle.rip_log.specs.TimedParts.{AreTimed}
 use Rattle.rip_log.specs.TimedCall.{TakesTimed, TimedCall, timed_lines, timed_text}
 use Rattle.rip_log.specs.TimedText.{HasTimed, IsEarly, IsTimedLine, IsUntimed, TimedSaid, untimed}
-use Rattle.rip_log.specs.TimedText.IsUntimed.{long_line, no_time}
+use Rattle.rip_log.specs.TimedText.IsUntimed.{long_line, other_fields}
 use Rattle.rip_log.specs.Wholes.{rest_of}
 use Rattle.rip_log.specs.declared.error.LogCode.{LogCode}
 use Rattle.rip_log.specs.declared.error.LogCode.TheVariants.{Fields, LongLine}
@@ -36,7 +36,7 @@ skipped-line line short h = record {
 
 pub untimed-line : (line : List ℕ) → length line ≤ 2048 → 0 < length (fields_of (strip_last 13 line)) → is_comment (fields_of (strip_last 13 line)) ≡ false
     → ((micros : ℕ) (link sender digits : List ℕ) → ¬ AreTimed (fields_of (strip_last 13 line)) micros link sender digits) → IsUntimed line Fields
-untimed-line line short some plain none = no_time (record {
+untimed-line line short some plain none = other_fields (record {
   fields = fields_of (strip_last 13 line);
   has_fields = HasFields-line line short;
   says = says_something (fields_of (strip_last 13 line)) some plain;

@@ -2,9 +2,9 @@
 use Rattle.std.proofs.Common.{◌≡◌, ◌<◌, ◌∙◌, ℕ, List, [], ◌∷◌, length, Option, Some, None, Result, Ok, Err, get_or, ap, arith, refl, subst, sym}
 use Rattle.rip_log.specs.Lines.{Capture, three_fields}
 use Rattle.rip_log.specs.LogText.{BadBy, HasFields, SaysNothing}
-use Rattle.rip_log.specs.LogText.BadBy.{bad_datagram, long_datagram, no_digits, no_name, no_sender}
+use Rattle.rip_log.specs.LogText.BadBy.{no_datagram, long_datagram, no_hex, no_name, no_sender}
 use Rattle.rip_log.specs.TimedText.{HasTimed, IsTimedLine, TimedSaid, captured, bad, untimed}
-use Rattle.rip_log.specs.TimedText.IsUntimed.{long_line, no_time}
+use Rattle.rip_log.specs.TimedText.IsUntimed.{long_line, other_fields}
 use Rattle.rip_log.specs.Times.{IsTimeText}
 use Rattle.rip_log.specs.declared.error.LogCode.{LogCode}
 use Rattle.rip_log.specs.declared.error.LogCode.TheVariants as codes
@@ -36,9 +36,9 @@ same-timed line m n a b c d e f first second =
 bad-timed : (line : List ℕ) (micros : ℕ) (code : LogCode) → BadBy (HasTimed line micros) code → (link sender digits : List ℕ) × HasTimed line micros link sender digits
 bad-timed line micros code (no_name link sender digits has is) = (link, sender, digits, has)
 bad-timed line micros code (no_sender link sender digits has name is) = (link, sender, digits, has)
-bad-timed line micros code (no_digits link digits address front is) = (link, front.sender, digits, front.three)
+bad-timed line micros code (no_hex link digits address front is) = (link, front.sender, digits, front.three)
 bad-timed line micros code (long_datagram link digits bytes address front e many) = (link, front.sender, digits, front.three)
-bad-timed line micros code (bad_datagram link digits bytes address f front e few fault) = (link, front.sender, digits, front.three)
+bad-timed line micros code (no_datagram link digits bytes address f front e few fault) = (link, front.sender, digits, front.three)
 
 -- the text of a time is no comment
 not-skipped : (line : List ℕ) (micros : ℕ) (link sender digits : List ℕ) (fields : List (List ℕ)) → HasTimed line micros link sender digits → HasFields line fields → SaysNothing fields → ⊥
@@ -70,7 +70,7 @@ module _ (laws : WireLaws) (line : List ℕ) (micros : ℕ) (link sender digits 
         (same-timed line m micros own.0 own.1 own.2 link sender digits own.3 has).0,
       )
   timed-says (Some (untimed code)) (long_line long) = absurd (omega (arith, long, has.has_fields.short))
-  timed-says (Some (untimed code)) (no_time none) = absurd (none.other micros link sender digits has)
+  timed-says (Some (untimed code)) (other_fields none) = absurd (none.other micros link sender digits has)
 
 -- the line has a time, or says what it says without one
 data Finds (line : List ℕ) (said : Option TimedSaid) : Type 0 where
@@ -84,7 +84,7 @@ finds line None h = nothing refl h.fields h.has_fields h.says_nothing
 finds line (Some (captured m capture)) h = timed m _ _ _ h.front.three
 finds line (Some (bad m code)) h = let own = bad-timed line m code h in timed m own.0 own.1 own.2 own.3
 finds line (Some (untimed code)) (long_line h) = long refl h
-finds line (Some (untimed code)) (no_time h) = others refl h.fields h.has_fields h.says
+finds line (Some (untimed code)) (other_fields h) = others refl h.fields h.has_fields h.says
 
 -- what is found of two sayings of one line, which agree where it has a time
 both : (line : List ℕ) (a b : Option TimedSaid) → ((m : ℕ) (l s d : List ℕ) → HasTimed line m l s d → a ≡ b) → Finds line a → Finds line b → a ≡ b

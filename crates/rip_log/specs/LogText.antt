@@ -125,11 +125,11 @@ pub data BadBy (Has : List ℕ → List ℕ → List ℕ → Type 0) : LogCode �
       → BadBy Has LinkName
   no_sender : (link sender digits : List ℕ) → Has link sender digits → IsName link
       → ((address : ℕ) → ¬ IsSender sender address) → BadBy Has Sender
-  no_digits : (link digits : List ℕ) (address : ℕ) → SenderBy Has link digits address
+  no_hex : (link digits : List ℕ) (address : ℕ) → SenderBy Has link digits address
       → ((bytes : List ℕ) → decode_of digits ≢ Ok bytes) → BadBy Has Hex
   long_datagram : (link digits bytes : List ℕ) (address : ℕ) → SenderBy Has link digits address
       → decode_of digits ≡ Ok bytes → MOST_BYTES < length bytes → BadBy Has LongDatagram
-  bad_datagram : (link digits bytes : List ℕ) (address : ℕ) (e : WireError)
+  no_datagram : (link digits bytes : List ℕ) (address : ℕ) (e : WireError)
       → SenderBy Has link digits address → decode_of digits ≡ Ok bytes
       → length bytes ≤ MOST_BYTES → WireFault bytes e.code e.at → BadBy Has (Wire e)
 
@@ -158,7 +158,7 @@ pub record HasOthers (line : List ℕ) : Type 0 where
 -- a line that is bad by itself, by the first of its faults
 pub data IsBad (line : List ℕ) : LogCode → Type 0 where
   long_line : MOST_LINE_BYTES < length line → IsBad line LongLine
-  no_three : HasOthers line → IsBad line Fields
+  other_fields : HasOthers line → IsBad line Fields
   of_three : (code : LogCode) → BadBy (HasThree line) code → IsBad line code
 
 -- a line is judged: it is skipped, or is a record, or is bad

@@ -53,7 +53,7 @@ TakesBare old new bare =
 -- there; or the source failed
 pub data IsBadNext (old new : Option (List ℕ)) (n : ℕ) : LogCode → Type 0 where
   long_line : n < MOST_LINES → LongFirst old → Keeps old new → IsBadNext old new n codes.LongLine
-  many_lines : n ≡ MOST_LINES → HasLine old true → Keeps old new
+  too_many : n ≡ MOST_LINES → HasLine old true → Keeps old new
       → IsBadNext old new n codes.TooManyLines
   unread : Keeps old new → IsBadNext old new n codes.Read
 

@@ -24,7 +24,7 @@ pub record HasNoTime (line : List ℕ) : Type 0 where
 -- a line that is bad and has no time
 pub data IsUntimed (line : List ℕ) : LogCode → Type 0 where
   long_line : MOST_LINE_BYTES < length line → IsUntimed line LongLine
-  no_time : HasNoTime line → IsUntimed line Fields
+  other_fields : HasNoTime line → IsUntimed line Fields
 
 -- what a line says that is not skipped: it is a record of a time, or bad at a time, by the three
 -- fields behind it; or it is bad and has no time

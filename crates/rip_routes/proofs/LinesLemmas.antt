@@ -12,7 +12,7 @@ use Rattle.rip_log.specs.Fields.{fields_of}
 use Rattle.rip_log.specs.Lines.{lines_of}
 use Rattle.rip_log.specs.Logs.{IfElse}
 use Rattle.rip_log.specs.TextCall.{IsBadNext, TakesBare}
-use Rattle.rip_log.specs.TextCall.IsBadNext.{long_line, many_lines, unread}
+use Rattle.rip_log.specs.TextCall.IsBadNext.{long_line, too_many, unread}
 use Rattle.rip_log.specs.declared.error.LogCode.{LogCode}
 use Rattle.rip_routes.specs.declared.error.RoutesCause.{RoutesCause}
 use Rattle.rip_routes.specs.declared.error.RoutesCause.TheVariants as causes
@@ -120,8 +120,8 @@ fault_at n text m k t line rest cause passed lines fault =
     ∙ ap (λ (j : ℕ). tell_lines n j (line ∷ rest) t) (omega (arith, passed.count))
     ∙ fault
 
-many_told : (n : Network) (k : ℕ) (t : OwnTables) (line : List ℕ) (rest : List (List ℕ)) → k ≡ 1000000 → tell_lines n k (line ∷ rest) t ≡ Err (record { line = k + 1; cause = causes.TooManyLines })
-many_told n k t line rest is =
+many_lines : (n : Network) (k : ℕ) (t : OwnTables) (line : List ℕ) (rest : List (List ℕ)) → k ≡ 1000000 → tell_lines n k (line ∷ rest) t ≡ Err (record { line = k + 1; cause = causes.TooManyLines })
+many_lines n k t line rest is =
     let full : nat_le 1000000 k ≡ true = grind (arith, is) in
     ap (λ b. cond b (Err (record { line = k + 1; cause = causes.TooManyLines })) (then_tell (k + 1) (tell_line n t line) (tell_lines n (k + 1) rest))) full
 
@@ -137,12 +137,12 @@ module _ {G : Type 0} (view : G → OwnTables) (n : Network) where
       long (Some text) (Some m) left passed first =
           let (line, rest, past, lines) = first in
           fault_at n text m k t line rest causes.LongLine passed lines (next_line n k line rest t (Err causes.LongLine) few (long_told n t line past))
-  told_bad text mid left k t code passed (many_lines all more keeps) = many text mid left passed more
+  told_bad text mid left k t code passed (too_many all more keeps) = many text mid left passed more
     where
       many : (text mid left : Option (List ℕ)) → PassedKnown n text mid k t → HasLine mid true → OutcomeKnown n text (Err (record { line = k + 1; cause = causes.TooManyLines }))
       many None mid left passed more = tt
       many (Some text) None left passed more = absurd passed
-      many (Some text) (Some m) left passed more = let (line, rest, lines) = more in fault_at n text m k t line rest causes.TooManyLines passed lines (many_told n k t line rest all)
+      many (Some text) (Some m) left passed more = let (line, rest, lines) = more in fault_at n text m k t line rest causes.TooManyLines passed lines (many_lines n k t line rest all)
   told_bad text mid left k t code passed (unread keeps) = (k, t, passed_kept n text mid left k t passed keeps, refl)
 
   stuck : (text mid left : Option (List ℕ)) (k : ℕ) (t : OwnTables) (bare : List ℕ) → PassedKnown n text mid k t → TakesBare mid left bare → WantsAt n t bare → StuckKnown n text (k + 1)
@@ -220,13 +220,13 @@ dropped_none (Some text) = ([], [], refl, refl, omega arith)
 -- where the reader's line is bad, the text stays
 pub bad_keeps : (mid left : Option (List ℕ)) (k : ℕ) (code : LogCode) → IsBadNext mid left k code → Keeps mid left
 bad_keeps mid left k code (long_line few first keeps) = keeps
-bad_keeps mid left k code (many_lines all more keeps) = keeps
+bad_keeps mid left k code (too_many all more keeps) = keeps
 bad_keeps mid left k code (unread keeps) = keeps
 
 -- a reader's error is Read exactly where its cause is
 pub code_read : (mid left : Option (List ℕ)) (k : ℕ) (code : LogCode) → IsBadNext mid left k code → is_read (cause_of code) ≡ is_read_code code
 code_read mid left k code (long_line few first keeps) = refl
-code_read mid left k code (many_lines all more keeps) = refl
+code_read mid left k code (too_many all more keeps) = refl
 code_read mid left k code (unread keeps) = refl
 
 -- what a source has given is a text that it has begun to give

@@ -28,6 +28,7 @@ use Rattle.rip_routes.specs.declared.told.Way.{Way}
 use Rattle.rip_routes.specs.declared.told.Way.TheVariants.{Here, To}
 use Rattle.rip_routes.specs.RouteLines.{before_comma, direct_in, hop_in, is_on_link, is_silent, line_said, link_in, metric_in, over_in, router_in, told_alone, told_by, told_by_bare, told_by_fields, told_by_line, told_hop, told_of_prefix, told_of_router, told_rest, told_unreachable, told_with}
 use Rattle.rip_routes.specs.RouteText.{BreakRule, FieldsSay, GiveRoute, GiveWay, HasFields, HasItself, HasRest, IsBeforeComma, IsFromComma, IsMetricText, IsOwnMetric, IsWay, KeepMetric, LineSays, NamesPlace, SaysNothing, TellRoute}
+use Rattle.rip_routes.specs.RouteText.BreakRule.{no_metric, no_prefix, no_router, no_way, other_fields}
 use Rattle.rip_routes.specs.OwnTables.{OwnTables}
 use Rattle.rip_routes.specs.Telling.{tell_line, tell_said}
 use Rattle.rip_routes.proofs.PlanLemmas.{direct_bounds, on_link_exact}
@@ -249,15 +250,13 @@ module _ (laws : TextLaws) (n : Network) (lawful : IsLawful n) where
     route_told rest m way (inr (text, words, is, metric, gives)) = ap (told_rest n r p) is ∙ gives_told text words m way (says_metric text m metric) gives
 
     -- from what is computed to the words
-    abbrev RestSays : List (List ℕ) → Said → Type 0
-    RestSays rest (Ok None) = ⊥
-    RestSays rest (Ok (Some told)) = (told.router ≡ r) × (told.prefix ≡ p) × GiveRoute n r p rest told.metric told.way
-    RestSays rest (Err causes.Metric) = ¬ KeepMetric rest
-    RestSays rest (Err causes.Way) = KeepMetric rest
-    RestSays rest (Err other) = ⊥
+    data RestSays (rest : List (List ℕ)) : Said → Type 0 where
+      route : (told : Told) → told.router ≡ r → told.prefix ≡ p → GiveRoute n r p rest told.metric told.way → RestSays rest (Ok (Some told))
+      metric_missing : ¬ KeepMetric rest → RestSays rest (Err causes.Metric)
+      way_missing : KeepMetric rest → RestSays rest (Err causes.Way)
 
     told_way : (text : List ℕ) (words : List (List ℕ)) (m : ℕ) (way : Way) → metric_in text ≡ Some m → IsWay n r words way → RestSays (text ∷ words) (Ok (Some (told_by r p m way)))
-    told_way text words m way e is = (refl, refl, inr (text, words, refl, metric_says text m e, by (m == 16) refl))
+    told_way text words m way e is = route (told_by r p m way) refl refl (inr (text, words, refl, metric_says text m e, by (m == 16) refl))
       where
         by : (b : Bool) → (m == 16) ≡ b → GiveWay n r words m (cond b None (Some way))
         by true t = (eqb-true m 16 t, inr (way, is))
@@ -271,8 +270,8 @@ module _ (laws : TextLaws) (n : Network) (lawful : IsLawful n) where
             let own = own_is r p (direct_in n r p) refl in
             let low = own_low r p (unwrap_or (direct_in n r p) 1) own in
             let other = false_from_ne_true (unwrap_or (direct_in n r p) 1 == 16) (λ t. omega (arith, low, eqb-true (unwrap_or (direct_in n r p) 1) 16 t)) in
-            (refl, refl, inl (ap (λ (w : List ℕ). w ∷ []) ((bytes_eq-Decides word (codes "here")).0 e), own, ap (λ b. cond b None (Some Here)) other))
-        by false e = tt
+            route (told_by r p (unwrap_or (direct_in n r p) 1) Here) refl refl (inl (ap (λ (w : List ℕ). w ∷ []) ((bytes_eq-Decides word (codes "here")).0 e), own, ap (λ b. cond b None (Some Here)) other))
+        by false e = way_missing tt
 
     metric_kept : (text word : List ℕ) (words : List (List ℕ)) (m : ℕ) → metric_in text ≡ Some m → KeepMetric (text ∷ word ∷ words)
     metric_kept text word words m e = (m, metric_says text m e)
@@ -281,24 +280,21 @@ module _ (laws : TextLaws) (n : Network) (lawful : IsLawful n) where
     metric_missed text word words e (m, is) = none-some m (sym e ∙ says_metric text m is)
 
     rest_two : (text word : List ℕ) (o : Option ℕ) → metric_in text ≡ o → RestSays (text ∷ word ∷ []) (told_with r p word o)
-    rest_two text word None e = metric_missed text word [] e
+    rest_two text word None e = metric_missing (metric_missed text word [] e)
     rest_two text word (Some m) e = by (bytes_eq word (codes "here")) refl
       where
         last : (b : Bool) → (bytes_eq word (codes "unreachable") && m == 16) ≡ b → RestSays (text ∷ word ∷ []) (cond b (Ok (Some (told_unreachable r p))) (Err causes.Way))
         last true t =
             let (word_is, m_is) = and_parts (bytes_eq word (codes "unreachable")) (m == 16) t in
-            let sixteen = eqb-true m 16 m_is in (
+            let sixteen = eqb-true m 16 m_is in
+            route (told_unreachable r p) refl refl (inr (
+              text,
+              word ∷ [],
               refl,
-              refl,
-              inr (
-                text,
-                word ∷ [],
-                refl,
-                subst (IsMetricText text) sixteen (metric_says text m e),
-                (refl, inl (ap (λ (w : List ℕ). w ∷ []) ((bytes_eq-Decides word (codes "unreachable")).0 word_is))),
-              ),
-            )
-        last false t = metric_kept text word [] m e
+              subst (IsMetricText text) sixteen (metric_says text m e),
+              (refl, inl (ap (λ (w : List ℕ). w ∷ []) ((bytes_eq-Decides word (codes "unreachable")).0 word_is))),
+            ))
+        last false t = way_missing (metric_kept text word [] m e)
 
         by : (b : Bool) → bytes_eq word (codes "here") ≡ b
             → RestSays (text ∷ word ∷ []) (cond b (Ok (Some (told_by r p m Here))) (cond (bytes_eq word (codes "unreachable") && m == 16) (Ok (Some (told_unreachable r p))) (Err causes.Way)))
@@ -332,8 +328,8 @@ module _ (laws : TextLaws) (n : Network) (lawful : IsLawful n) where
         by false s false t k = absurd (none-some hop k)
 
     rest_three : (text word name : List ℕ) (o : Option ℕ) (hop : Option NextHop) → metric_in text ≡ o → hop_in n r word name ≡ hop → RestSays (text ∷ word ∷ name ∷ []) (told_hop r p o hop)
-    rest_three text word name None hop e f = metric_missed text word (name ∷ []) e
-    rest_three text word name (Some m) None e f = metric_kept text word (name ∷ []) m e
+    rest_three text word name None hop e f = metric_missing (metric_missed text word (name ∷ []) e)
+    rest_three text word name (Some m) None e f = way_missing (metric_kept text word (name ∷ []) m e)
     rest_three text word name (Some m) (Some hop) e f = told_way text (word ∷ name ∷ []) m (To hop) e (hop_way word name hop f)
 
     rest_says : (rest : List (List ℕ)) → 1 ≤ length rest → length rest ≤ 3 → RestSays rest (told_rest n r p rest)
@@ -349,41 +345,21 @@ module _ (laws : TextLaws) (n : Network) (lawful : IsLawful n) where
     route_keeps rest m way (inr (text, [], is, metric, gives)) = subst KeepMetric (sym is) tt
     route_keeps rest m way (inr (text, word ∷ words, is, metric, gives)) = subst KeepMetric (sym is) (m, metric)
 
-    no_metric : (rest : List (List ℕ)) → 1 ≤ length rest → length rest ≤ 3 → ¬ KeepMetric rest → told_rest n r p rest ≡ Err causes.Metric
-    no_metric rest least most none = by (told_rest n r p rest) (rest_says rest least most)
+    metric_refused : (rest : List (List ℕ)) → 1 ≤ length rest → length rest ≤ 3 → ¬ KeepMetric rest → told_rest n r p rest ≡ Err causes.Metric
+    metric_refused rest least most none = by (told_rest n r p rest) (rest_says rest least most)
       where
         by : (x : Said) → RestSays rest x → x ≡ Err causes.Metric
-        by (Ok None) h = absurd h
-        by (Ok (Some told)) h = absurd (none (route_keeps rest told.metric told.way h.2))
-        by (Err causes.Metric) h = refl
-        by (Err causes.Way) h = absurd (none h)
-        by (Err causes.LongLine) h = absurd h
-        by (Err causes.Fields) h = absurd h
-        by (Err causes.Router) h = absurd h
-        by (Err causes.Prefix) h = absurd h
-        by (Err (causes.Changed q old new)) h = absurd h
-        by (Err causes.TooManyLines) h = absurd h
-        by (Err causes.TooManyPrefixes) h = absurd h
-        by (Err causes.Read) h = absurd h
-        by (Err causes.Memory) h = absurd h
+        by x (route told router prefix gives) = absurd (none (route_keeps rest told.metric told.way gives))
+        by x (metric_missing missing) = refl
+        by x (way_missing keeps) = absurd (none keeps)
 
-    no_way : (rest : List (List ℕ)) → 1 ≤ length rest → length rest ≤ 3 → KeepMetric rest → ((m : ℕ) (way : Option Way) → ¬ GiveRoute n r p rest m way) → told_rest n r p rest ≡ Err causes.Way
-    no_way rest least most keeps none = by (told_rest n r p rest) (rest_says rest least most)
+    way_refused : (rest : List (List ℕ)) → 1 ≤ length rest → length rest ≤ 3 → KeepMetric rest → ((m : ℕ) (way : Option Way) → ¬ GiveRoute n r p rest m way) → told_rest n r p rest ≡ Err causes.Way
+    way_refused rest least most keeps none = by (told_rest n r p rest) (rest_says rest least most)
       where
         by : (x : Said) → RestSays rest x → x ≡ Err causes.Way
-        by (Ok None) h = absurd h
-        by (Ok (Some told)) h = absurd (none told.metric told.way h.2)
-        by (Err causes.Metric) h = absurd (h keeps)
-        by (Err causes.Way) h = refl
-        by (Err causes.LongLine) h = absurd h
-        by (Err causes.Fields) h = absurd h
-        by (Err causes.Router) h = absurd h
-        by (Err causes.Prefix) h = absurd h
-        by (Err (causes.Changed q old new)) h = absurd h
-        by (Err causes.TooManyLines) h = absurd h
-        by (Err causes.TooManyPrefixes) h = absurd h
-        by (Err causes.Read) h = absurd h
-        by (Err causes.Memory) h = absurd h
+        by x (route told router prefix gives) = absurd (none told.metric told.way gives)
+        by x (metric_missing missing) = absurd (missing keeps)
+        by x (way_missing keeps) = refl
 
   -- ---- fields
 
@@ -422,21 +398,15 @@ module _ (laws : TextLaws) (n : Network) (lawful : IsLawful n) where
 
   -- from the words to what is computed
   broken : (fields : List (List ℕ)) (cause : RoutesCause) → BreakRule n fields cause → told_by_fields n fields ≡ Err cause
-  broken fields causes.Fields h = few_fields fields h
-  broken fields causes.Router (router, prefix, rest, has, none) =
+  broken fields cause (other_fields h) = few_fields fields h
+  broken fields cause (no_router router prefix rest has none) =
       rest_read fields router prefix rest has ∙ ap (λ o. told_of_router n o (prefix_in prefix) rest) (none_of (router_in n router) (λ r e. none r ((router_is router r).0 e)))
-  broken fields causes.Prefix (router, prefix, rest, has, (r, named), none) =
+  broken fields cause (no_prefix router prefix rest has r named none) =
       rest_read fields router prefix rest has
       ∙ ap (λ o. told_of_router n o (prefix_in prefix) rest) ((router_is router r).1 named)
       ∙ ap (λ o. told_of_prefix n r o rest) (none_of (prefix_in prefix) (λ p e. let both = (laws.prefixes prefix p).0 e in none p (record { is_block = both.0; spelled = both.1 })))
-  broken fields causes.Metric (r, p, rest, place, none) = place_read fields r p rest place ∙ no_metric r p rest place.has.least place.has.most none
-  broken fields causes.Way (r, p, rest, place, keeps, none) = place_read fields r p rest place ∙ no_way r p rest place.has.least place.has.most keeps none
-  broken fields causes.LongLine h = absurd h
-  broken fields (causes.Changed q old new) h = absurd h
-  broken fields causes.TooManyLines h = absurd h
-  broken fields causes.TooManyPrefixes h = absurd h
-  broken fields causes.Read h = absurd h
-  broken fields causes.Memory h = absurd h
+  broken fields cause (no_metric r p rest place none) = place_read fields r p rest place ∙ metric_refused r p rest place.has.least place.has.most none
+  broken fields cause (no_way r p rest place keeps none) = place_read fields r p rest place ∙ way_refused r p rest place.has.least place.has.most keeps none
 
   fields_told : (fields : List (List ℕ)) (x : Said) → FieldsSay n fields x → told_by_line n fields ≡ x
   fields_told [] (Ok None) h = refl
@@ -452,29 +422,19 @@ module _ (laws : TextLaws) (n : Network) (lawful : IsLawful n) where
   Speak fields (Err cause) = BreakRule n fields cause
 
   rest_speaks : (fields : List (List ℕ)) (r : ℕ) (p : Block) (rest : List (List ℕ)) → NamesPlace n fields r p rest → (x : Said) → told_rest n r p rest ≡ x → RestSays r p rest x → Speak fields x
-  rest_speaks fields r p rest place (Ok None) e h = absurd h
-  rest_speaks fields r p rest place (Ok (Some told)) e (router, prefix, gives) = record {
+  rest_speaks fields r p rest place x e (route told router prefix gives) = record {
     rest = rest;
     place = subst (λ (s : ℕ). NamesPlace n fields s told.prefix rest) (sym router) (subst (λ (q : Block). NamesPlace n fields r q rest) (sym prefix) place);
     gives = subst (λ (s : ℕ). GiveRoute n s told.prefix rest told.metric told.way) (sym router) (subst (λ (q : Block). GiveRoute n r q rest told.metric told.way) (sym prefix) gives);
   }
-  rest_speaks fields r p rest place (Err causes.Metric) e h = (r, p, rest, place, h)
-  rest_speaks fields r p rest place (Err causes.Way) e h = (r, p, rest, place, h, λ m way gives. let clash = sym e ∙ route_told r p rest m way gives in cc clash)
-  rest_speaks fields r p rest place (Err causes.LongLine) e h = absurd h
-  rest_speaks fields r p rest place (Err causes.Fields) e h = absurd h
-  rest_speaks fields r p rest place (Err causes.Router) e h = absurd h
-  rest_speaks fields r p rest place (Err causes.Prefix) e h = absurd h
-  rest_speaks fields r p rest place (Err (causes.Changed q old new)) e h = absurd h
-  rest_speaks fields r p rest place (Err causes.TooManyLines) e h = absurd h
-  rest_speaks fields r p rest place (Err causes.TooManyPrefixes) e h = absurd h
-  rest_speaks fields r p rest place (Err causes.Read) e h = absurd h
-  rest_speaks fields r p rest place (Err causes.Memory) e h = absurd h
+  rest_speaks fields r p rest place x e (metric_missing none) = no_metric r p rest place none
+  rest_speaks fields r p rest place x e (way_missing keeps) = no_way r p rest place keeps (λ m way gives. let clash = sym e ∙ route_told r p rest m way gives in cc clash)
 
   place_speaks : (fields : List (List ℕ)) (router prefix : List ℕ) (rest : List (List ℕ)) → HasRest fields router prefix rest
       → (o : Option ℕ) → router_in n router ≡ o → (q : Option Block) → prefix_in prefix ≡ q → Speak fields (told_of_router n o q rest)
-  place_speaks fields router prefix rest has None e q f = (router, prefix, rest, has, λ r named. none-some r (sym e ∙ (router_is router r).1 named))
+  place_speaks fields router prefix rest has None e q f = no_router router prefix rest has (λ r named. none-some r (sym e ∙ (router_is router r).1 named))
   place_speaks fields router prefix rest has (Some r) e None f =
-      (router, prefix, rest, has, (r, (router_is router r).0 e), λ p is. none-some p (sym f ∙ (laws.prefixes prefix p).1 (is.is_block, is.spelled)))
+      no_prefix router prefix rest has r ((router_is router r).0 e) (λ p is. none-some p (sym f ∙ (laws.prefixes prefix p).1 (is.is_block, is.spelled)))
   place_speaks fields router prefix rest has (Some r) e (Some p) f =
       let both = (laws.prefixes prefix p).0 f in
       rest_speaks fields r p rest
@@ -482,8 +442,8 @@ module _ (laws : TextLaws) (n : Network) (lawful : IsLawful n) where
       (told_rest n r p rest) refl (rest_says r p rest has.least has.most)
 
   speaks : (fields : List (List ℕ)) → Speak fields (told_by_fields n fields)
-  speaks [] = inl (omega arith)
-  speaks (a ∷ []) = inl (omega arith)
+  speaks [] = other_fields (inl (omega arith))
+  speaks (a ∷ []) = other_fields (inl (omega arith))
   speaks (a ∷ b ∷ rest) = by (nat_le 1 (length rest) && nat_le (length rest) 3) refl
     where
       is_between : (k : ℕ) → (nat_le 1 k && nat_le k 3) ≡ true → (1 ≤ k) × (k ≤ 3)
@@ -496,7 +456,7 @@ module _ (laws : TextLaws) (n : Network) (lawful : IsLawful n) where
       by true e =
           let bounds = is_between (length rest) e in
           place_speaks (a ∷ b ∷ rest) a b rest (record { whole = refl; least = bounds.0; most = bounds.1 }) (router_in n a) refl (prefix_in b) refl
-      by false e = is_out (length rest) e
+      by false e = other_fields (is_out (length rest) e)
 
   speak_says : (fields : List (List ℕ)) (x : Said) → ¬ SaysNothing fields → Speak fields x → FieldsSay n fields x
   speak_says fields (Ok None) says h = absurd h

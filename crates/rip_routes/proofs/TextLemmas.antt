@@ -17,6 +17,7 @@ use Rattle.rip_routes.specs.declared.told.Told.{Told}
 use Rattle.rip_routes.specs.OwnTables.{OwnRoute, OwnTables}
 use Rattle.rip_routes.specs.RouteLines.{line_said}
 use Rattle.rip_routes.specs.RouteText.{AreAccepted, AreTold, IsFault, IsOfPlace, IsRefused, LineSays, MakePlace, MakeTables, RefusesText, TellTables, bad, refused, too_many}
+use Rattle.rip_routes.specs.RouteText.IsRefused.{change, too_many_prefixes}
 use Rattle.rip_routes.specs.Telling.{is_full, new_tables, tell, tell_at, tell_line, tell_lines, tell_said, tell_text, then_tell, with_told}
 use Rattle.rip_routes.proofs.LinesLemmas.{next_line, tells_on}
 use Rattle.rip_routes.proofs.MakeLemmas.{among_at, at_among, made_more, new_made, one_made}
@@ -45,28 +46,28 @@ refused_of t told cause h = by (t.routes told.router told.prefix) refl h
     changed route stands true e k = absurd (cc k)
     changed route stands false e k =
         let is : causes.Changed told.prefix route.metric told.metric ≡ cause = cc k in
-        subst (IsRefused t told) is (record { place = refl; route = route; stands = stands; stood = refl; told_now = refl; differ = not-eq route.metric told.metric e })
+        subst (IsRefused t told) is (change told.prefix route.metric told.metric (record { place = refl; route = route; stands = stands; stood = refl; told_now = refl; differ = not-eq route.metric told.metric e }))
 
     full : (b : Bool) → is_full t told.prefix ≡ b → cond b (Err causes.TooManyPrefixes) (Ok (with_told t told)) ≡ Err cause → IsRefused t told cause
     full false e k = absurd (cc k)
     full true e k =
         let is : causes.TooManyPrefixes ≡ cause = cc k in
         let (most, new) = and_parts (nat_le 2048 (length t.prefixes)) (not (is_among told.prefix t.prefixes)) e in
-        subst (IsRefused t told) is (record { absent = λ j at. let clash = sym new ∙ ap not (at_among told.prefix t.prefixes j at) in cc clash; full = grind (arith, most) })
+        subst (IsRefused t told) is (too_many_prefixes (record { absent = λ j at. let clash = sym new ∙ ap not (at_among told.prefix t.prefixes j at) in cc clash; full = grind (arith, most) }))
 
     by : (o : Option OwnRoute) → t.routes told.router told.prefix ≡ o → tell_at t told o ≡ Err cause → IsRefused t told cause
     by (Some route) stands k = changed route stands (route.metric == told.metric) refl k
     by None stands k = full (is_full t told.prefix) refl k
 
 refused_at : (n : Network) (tolds : List Told) (t : OwnTables) (told : Told) (cause : RoutesCause) → MakeTables n tolds t → IsRefused t told cause → tell t told ≡ Err cause
-refused_at n tolds t told (causes.Changed p old new) made h =
+refused_at n tolds t told cause made (change p old new h) =
     ap (tell_at t told) h.stands
     ∙ ap (λ b. cond b (Ok (with_told t told)) (Err (causes.Changed told.prefix h.route.metric told.metric)))
     (false_from_ne_true (h.route.metric == told.metric) (λ e. h.differ (eqb-true h.route.metric told.metric e)))
     ∙ ap (λ (q : Block). Err (causes.Changed q h.route.metric told.metric)) (sym h.place)
     ∙ ap (λ (m : ℕ). Err (causes.Changed p m told.metric)) (sym h.stood)
     ∙ ap (λ (m : ℕ). Err (causes.Changed p old m)) (sym h.told_now)
-refused_at n tolds t told causes.TooManyPrefixes made h = by (t.routes told.router told.prefix) refl (made.routes told.router told.prefix)
+refused_at n tolds t told cause made (too_many_prefixes h) = by (t.routes told.router told.prefix) refl (made.routes told.router told.prefix)
   where
     full : is_full t told.prefix ≡ true
     full =
@@ -78,15 +79,6 @@ refused_at n tolds t told causes.TooManyPrefixes made h = by (t.routes told.rout
     by None e place = ap (tell_at t told) e ∙ ap (λ b. cond b (Err causes.TooManyPrefixes) (Ok (with_told t told))) full
     by (Some route) e place =
         let (k, some, is) = place.some in let (j, at) = listed_at n tolds t made told.router told.prefix k some is in absurd (h.absent j at)
-refused_at n tolds t told causes.LongLine made h = absurd h
-refused_at n tolds t told causes.Fields made h = absurd h
-refused_at n tolds t told causes.Router made h = absurd h
-refused_at n tolds t told causes.Prefix made h = absurd h
-refused_at n tolds t told causes.Metric made h = absurd h
-refused_at n tolds t told causes.Way made h = absurd h
-refused_at n tolds t told causes.TooManyLines made h = absurd h
-refused_at n tolds t told causes.Read made h = absurd h
-refused_at n tolds t told causes.Memory made h = absurd h
 
 -- ---- routes that are not refused
 

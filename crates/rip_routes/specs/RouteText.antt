@@ -120,21 +120,18 @@ KeepMetric (text ∷ word ∷ words) = (m : ℕ) × IsMetricText text m
 KeepMetric other = ⊤
 
 -- the first rule that fields break
-abbrev pub BreakRule : Network → List (List ℕ) → RoutesCause → Type 0
-BreakRule n fields Fields = (length fields < 3) ⊎ (5 < length fields)
-BreakRule n fields Router =
-    (router prefix : List ℕ) × (rest : List (List ℕ)) × HasRest fields router prefix rest
-    × ((r : ℕ) → ¬ IsRouterName n r router)
-BreakRule n fields Prefix =
-    (router prefix : List ℕ) × (rest : List (List ℕ)) × HasRest fields router prefix rest
-    × ((r : ℕ) × IsRouterName n r router) × ((p : Block) → ¬ IsPrefixText prefix p)
-BreakRule n fields Metric =
-    (r : ℕ) × (p : Block) × (rest : List (List ℕ)) × NamesPlace n fields r p rest
-    × (¬ KeepMetric rest)
-BreakRule n fields BadWay =
-    (r : ℕ) × (p : Block) × (rest : List (List ℕ)) × NamesPlace n fields r p rest
-    × KeepMetric rest × ((m : ℕ) (way : Option Way) → ¬ GiveRoute n r p rest m way)
-BreakRule n fields other = ⊥
+pub data BreakRule (n : Network) (fields : List (List ℕ)) : RoutesCause → Type 0 where
+  other_fields : (length fields < 3) ⊎ (5 < length fields) → BreakRule n fields Fields
+  no_router : (router prefix : List ℕ) (rest : List (List ℕ)) → HasRest fields router prefix rest
+      → ((r : ℕ) → ¬ IsRouterName n r router) → BreakRule n fields Router
+  no_prefix : (router prefix : List ℕ) (rest : List (List ℕ)) → HasRest fields router prefix rest
+      → (r : ℕ) → IsRouterName n r router → ((p : Block) → ¬ IsPrefixText prefix p)
+      → BreakRule n fields Prefix
+  no_metric : (r : ℕ) (p : Block) (rest : List (List ℕ)) → NamesPlace n fields r p rest
+      → ¬ KeepMetric rest → BreakRule n fields Metric
+  no_way : (r : ℕ) (p : Block) (rest : List (List ℕ)) → NamesPlace n fields r p rest
+      → KeepMetric rest → ((m : ℕ) (way : Option Way) → ¬ GiveRoute n r p rest m way)
+      → BreakRule n fields BadWay
 
 -- fields say nothing, or tell a route, or break a rule
 abbrev pub FieldsSay : Network → List (List ℕ) → Result (Option Told) RoutesCause → Type 0
@@ -213,10 +210,10 @@ pub record IsTooMany (t : OwnTables) (told : Told) : Type 0 where
   pub full : MOST_PREFIXES ≤ length t.prefixes
 
 -- a route is refused, where these are the tables before it
-abbrev pub IsRefused : OwnTables → Told → RoutesCause → Type 0
-IsRefused t told (Changed p old new) = IsChange t told p old new
-IsRefused t told TooManyPrefixes = IsTooMany t told
-IsRefused t told other = ⊥
+pub data IsRefused (t : OwnTables) (told : Told) : RoutesCause → Type 0 where
+  change : (p : Block) (old new : ℕ) → IsChange t told p old new
+      → IsRefused t told (Changed p old new)
+  too_many_prefixes : IsTooMany t told → IsRefused t told TooManyPrefixes
 
 -- none of these routes is refused, where the tables before it are what those before it make
 abbrev pub AreAccepted : Network → List Told → Type 0

@@ -2,7 +2,7 @@ use Rattle.std.proofs.Common.{rules, ◌<◌, ◌∙◌, arith, ap, refl, subst,
 use Rattle.std.proofs.KnownBytes.{Keeps-trans}
 use Rattle.rip_log.specs.Feeds.{held, text}
 use Rattle.rip_log.specs.Held.{ready_lines}
-use Rattle.rip_log.specs.TextCall.IsBadNext.{long_line, many_lines, unread}
+use Rattle.rip_log.specs.TextCall.IsBadNext.{long_line, too_many, unread}
 use Rattle.rip_log.specs.Wholes.{rest_of}
 use Rattle.rip_log.specs.declared.window.Window.{Window}
 use Rattle.rip_log.proofs.CarryLemmas.{line-kept, long-kept}
@@ -51,10 +51,8 @@ returns-in-Ok-Long-clause-call g c =
           let coming = rest_of S.given whole in
           let cut = (rw c.in-Ok-Long.field-0-is at c.in-Ok-Long.ensures.cut) whole begins in
           let keeps = c.has_line.ensures.text whole before in
-          rw c.stop-in-Ok-Long.ensures.error (
-          long_line (omega arith) (long-kept (text coming old.window.feed) (text coming mid.feed) keeps cut.0)
-          (Keeps-trans (text coming old.window.feed) (text coming mid.feed) (text coming now.feed) keeps cut.1)
-          );
+          let kept = Keeps-trans (text coming old.window.feed) (text coming mid.feed) (text coming now.feed) keeps cut.1 in
+          rw c.stop-in-Ok-Long.ensures.error (long_line (omega arith) (long-kept (text coming old.window.feed) (text coming mid.feed) keeps cut.0) kept);
       ended = λ was. cc (was, c.if-self.false);
       behind = search rules;
       numbered = tt;
@@ -106,4 +104,4 @@ pub returns-in-Err-clause-call : goal.returns-in-Err-clause-call
 returns-in-Err-clause-call g c = rw c.stop-in-Err.ensures.error (search (rules, unread))
 
 pub returns-then-self-ge-MOST_LINES-clause-call : goal.returns-then-self-ge-MOST_LINES-clause-call
-returns-then-self-ge-MOST_LINES-clause-call g c = rw c.stop-then-self-ge-MOST_LINES.ensures.error (search (rules, many_lines, line-kept))
+returns-then-self-ge-MOST_LINES-clause-call g c = rw c.stop-then-self-ge-MOST_LINES.ensures.error (search (rules, too_many, line-kept))
