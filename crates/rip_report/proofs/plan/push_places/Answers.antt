@@ -1,11 +1,11 @@
-use Rattle.std.proofs.Common.{◌≡◌, ℕ, ◌<◌, ◌≤◌, Option, None, Some, length, refl, arith}
+use Rattle.std.proofs.Common.{◌≡◌, ℕ, ◌<◌, Option, None, Some, length, refl, arith}
 use Rattle.std.specs.Prelude.{IfSome}
 use Rattle.rip_plan.specs.Network.{Network}
 use Rattle.rip_plan.specs.Relations.{IsLawful, IsPlace}
 use Rattle.rip_plan.specs.declared.parts.Seat.{Seat}
 use Rattle.rip_plan.specs.declared.parts.Seat.TheVariants.{Link, Own}
-use Rattle.rip_report.specs.PlanText.{IsSeat, place_line}
-use Rattle.rip_report.proofs.LoopLemmas.{adds_all, adds_item}
+use Rattle.rip_report.specs.PlanText.{IsSeat}
+use Rattle.rip_report.proofs.LoopLemmas.{all_items, item_more}
 use Rattle.rip_report.proofs.plan.push_places.Goals as goal
 
 -- a place of a plan is on a link of it, or with a router of it
@@ -26,12 +26,7 @@ pub push_place_line-requires-clause-seat : goal.push_place_line-requires-clause-
 push_place_line-requires-clause-seat g c = known c.args.plan.now c.loop-k.k c.place.result.prefix c.place.result.seat c.lawful.ensures c.place.ensures
 
 pub loop-k-preserved : goal.loop-k-preserved
-loop-k-preserved g c =
-    let n = c.args.plan.now in
-    record { adds = adds_item (place_line n) _ _ _ n.places c.loop-k.k c.place.result c.place.ensures.listed c.loop-k.invariant.adds c.push_place_line.ensures }
+loop-k-preserved g c = item_more c.loop-k.invariant c.place.ensures.listed c.push_place_line.ensures
 
 pub returns : goal.returns
-returns g c =
-    let n = c.args.plan.now in
-    let count : length n.places ≤ c.loop-k.k = let all = c.places-k-end.ensures in omega (arith, c.loop-k-test.false) in
-    adds_all (place_line n) _ _ n.places c.loop-k.k count c.loop-k.invariant.adds
+returns g c = all_items c.loop-k.invariant (let all = c.places-k-end.ensures in omega (arith, c.loop-k-test.false))

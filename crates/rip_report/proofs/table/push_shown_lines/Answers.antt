@@ -1,8 +1,8 @@
-use Rattle.std.proofs.Common.{◌++◌, ◌<◌, ◌≤◌, length, ap, arith, codes}
+use Rattle.std.proofs.Common.{◌++◌, ◌<◌, length, ap, arith, codes}
 use Rattle.rip_plan.proofs.ItemLemmas.{get_some}
-use Rattle.rip_wire.specs.Prefix.{Block, prefix_text}
+use Rattle.rip_wire.specs.Prefix.{prefix_text}
 use Rattle.rip_report.specs.TableText.{prefix_lines}
-use Rattle.rip_report.proofs.LoopLemmas.{adds_all, adds_item}
+use Rattle.rip_report.proofs.LoopLemmas.{all_items, item_more}
 use Rattle.rip_report.proofs.OutLemmas.{adds_same}
 use Rattle.rip_report.proofs.TextLemmas.{text-at}
 use Rattle.rip_report.proofs.table.push_shown_lines.Goals as goal
@@ -18,10 +18,7 @@ loop-k-preserved g c =
     let p = item.0 in
     let middle = text-at c.args.texts.now.prefixes k _ (prefix_text p ++ codes " ") (c.requires.texts.prefixes k p item.1) in
     let line = adds_same (ap (prefix_lines n i p) (c.metric-metric.ensures p item.1)) (c.push_prefix_line.ensures n i p c.front_of-front.ensures middle) in
-    record { adds = adds_item (λ (q : Block). prefix_lines n i q (s.shows c.args.number q)) _ _ _ s.prefixes k p item.1 c.loop-k.invariant.adds line }
+    item_more c.loop-k.invariant item.1 line
 
 pub returns : goal.returns
-returns g c =
-    let s = g.T.Table.state c.args.table.now in
-    let count : length s.prefixes ≤ c.loop-k.k = let all = c.prefix_count-k-end.ensures in omega (arith, c.loop-k-test.false) in
-    adds_all (λ (q : Block). prefix_lines c.args.plan.now c.args.interface q (s.shows c.args.number q)) _ _ s.prefixes c.loop-k.k count c.loop-k.invariant.adds
+returns g c = all_items c.loop-k.invariant (let all = c.prefix_count-k-end.ensures in omega (arith, c.loop-k-test.false))
