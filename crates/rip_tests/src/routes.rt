@@ -279,14 +279,26 @@ fn hosts(rt: &impl Abort, alloc: Global, count: u32) -> Result<String, AllocErro
 
 /// With the plan's three there are 2,048 prefixes, and no more.
 #[test]
-fn too_many_prefixes(rt: HostRuntime) -> Result<(), Fail> {
+fn most_prefixes(rt: HostRuntime) -> Result<(), Fail> {
     let plan = plan_of(&rt, rt.alloc(), TRIANGLE);
-    let mut text = hosts(&rt, rt.alloc(), 2_045)?;
+    let text = hosts(&rt, rt.alloc(), 2_045)?;
     let tables = tables(&rt, rt.alloc(), &plan, text.as_bytes());
     assert!(rt; tables.prefix_count() == MOST_PREFIXES);
     expect_route(&rt, &tables, (1, 2_047), (2, false), &[NextHop::Over(0)]);
-    text.push_str("r1 0.0.0.7/32 here\nr1 10.1.0.0/16 here\n")?;
-    text.push_str("r1 0.1.0.0/32 16 unreachable\n")?;
+    Ok(())
+}
+
+/// Lines of one host more than there may be, behind lines of hosts and of a prefix that are known.
+fn hosts_and_one(rt: &impl Abort, alloc: Global) -> Result<String, AllocError> {
+    let mut text = hosts(rt, alloc, 2_045)?;
+    text.push_str("r1 0.0.0.7/32 here\nr1 10.1.0.0/16 here\nr1 0.1.0.0/32 16 unreachable\n")?;
+    Ok(text)
+}
+
+#[test]
+fn too_many_prefixes(rt: HostRuntime) -> Result<(), Fail> {
+    let plan = plan_of(&rt, rt.alloc(), TRIANGLE);
+    let text = hosts_and_one(&rt, rt.alloc())?;
     let cause = RoutesCause::TooManyPrefixes;
     expect_refused(&rt, rt.alloc(), &plan, text.as_bytes(), 2_048, cause);
     Ok(())

@@ -1,6 +1,10 @@
 //! Verdicts on the routers' own tables, and what they come from.
 
+ghost use Rattle.std.specs.Prelude.{◌<◌, length};
+ghost use Rattle.rip_check.specs.Cases.{plan_of, state_of};
+ghost use Rattle.rip_check.specs.OwnTells.{IsToldBy};
 ghost use Rattle.rip_routes.specs.OwnTables.{FitsOwn};
+ghost use Rattle.rip_table.specs.State.{Fits};
 
 use crate::examples::TRIANGLE;
 use crate::fixtures::{metric, plan_of};
@@ -121,31 +125,61 @@ fn routers_without_a_line(rt: HostRuntime) {
     );
 }
 
-/// Expects of the dearer table what r2 and r3 tell, and what is wrong with the first prefix.
-fn expect_places<G: RouteTables>(rt: &impl Abort, alloc: Global, plan: &Plan, tables: &G)
-    requires { FitsOwn plan.now (G.tables tables.now) }
+/// Expects of the dearer table what r2 tells on a and r3 on b: not what they have over these links.
+fn expect_told<T: Table>(rt: &impl Abort, table: &T) {
+    let told = [(2, 0, Some(2)), (2, 2, None), (4, 0, None), (4, 1, Some(1))];
+    for (interface, k, metric) in told {
+        assert!(rt; shown(table, interface, k) == metric);
+    }
+}
+
+/// Expects what is wrong at a router, asked alone and of all places that are found at once.
+fn expect_wrong<T: Table, G: RouteTables>(
+    rt: &impl Abort,
+    alloc: Global,
+    case: &Case<'_, T>,
+    tables: &G,
+    router: usize,
+    wrong: Option<OwnPlace>,
+)
+    requires told { IsToldBy (plan_of case.now) (G.tables tables.now) (state_of case.now) }
+    requires router { router < length (plan_of case.now).routers }
 {
-    let Ok(table) = ToldTable::find(alloc, plan, tables) else {
-        panic!(rt; "no memory");
-    };
-    // r2 on a and r3 on b: what they have over these links they do not tell there.
-    assert!(rt; shown(&table, 2, 0) == Some(2) && shown(&table, 2, 2) == None);
-    assert!(rt; shown(&table, 4, 0) == None && shown(&table, 4, 1) == Some(1));
+    assert!(rt; case.wrong(tables, router) == wrong);
+    match WrongPlaces::find(alloc, case.plan, tables, case.table) {
+        Ok(places) => assert!(rt; places.at(case, tables, router) == wrong),
+        Err(_) => panic!(rt; "no memory"),
+    }
+}
+
+/// Expects what is wrong with r1 and r3 of the dearer table.
+fn expect_places<T: Table, G: RouteTables>(
+    rt: &impl Abort,
+    alloc: Global,
+    plan: &Plan,
+    tables: &G,
+    table: &T,
+)
+    requires fits { Fits plan.now (T.state table.now) }
+    requires told { IsToldBy plan.now (G.tables tables.now) (T.state table.now) }
+{
     assert!(rt; plan.routers() == 3 && table.prefix_count() == 3);
-    let case = Case::new(plan, &table, 0);
-    assert!(rt; case.wrong(tables, 0) == None);
-    assert!(rt; case.wrong(tables, 2) == Some(place(rt, 2, 0, Wrong::Over(1))));
-    let Ok(places) = WrongPlaces::find(alloc, plan, tables, &table) else {
-        panic!(rt; "no memory");
-    };
-    assert!(rt; places.at(&case, tables, 0) == None);
-    assert!(rt; places.at(&case, tables, 2) == Some(place(rt, 2, 0, Wrong::Over(1))));
-    assert!(rt; places.at(&Case::new(plan, &table, 1), tables, 2) == None);
+    let over = Some(place(rt, 2, 0, Wrong::Over(1)));
+    let case = Case::new(plan, table, 0);
+    expect_wrong(rt, alloc, &case, tables, 0, None);
+    expect_wrong(rt, alloc, &case, tables, 2, over);
+    expect_wrong(rt, alloc, &Case::new(plan, table, 1), tables, 2, None);
 }
 
 #[test]
 fn places_of_own_tables(rt: HostRuntime) {
     let plan = plan_of(&rt, rt.alloc(), TRIANGLE);
     let tables = tables(&rt, rt.alloc(), &plan, DEARER.as_bytes());
-    expect_places(&rt, rt.alloc(), &plan, &tables);
+    match ToldTable::find(rt.alloc(), &plan, &tables) {
+        Ok(table) => {
+            expect_told(&rt, &table);
+            expect_places(&rt, rt.alloc(), &plan, &tables, &table);
+        }
+        Err(_) => panic!(rt; "no memory"),
+    }
 }

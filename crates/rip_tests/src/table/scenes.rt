@@ -41,6 +41,17 @@ fn hear_next<R: Source, T: WindowTable>(
     }
 }
 
+/// Expects what the first interface shows of the first prefix, and which refused line is named.
+fn expect_scene<T: WindowTable>(
+    rt: &impl Abort,
+    scene: &Scene<T>,
+    metric: Option<u32>,
+    refusal: Option<LineRefusal>,
+) {
+    assert!(rt; shown(scene.table(), 0, 0) == metric);
+    assert!(rt; scene.refusal() == refusal);
+}
+
 /// What is shown is the last that was told; the first refused line is named until three seconds have
 /// passed behind the last.
 #[test]
@@ -55,24 +66,24 @@ fn an_episode_names_its_first_line(rt: HostRuntime) {
     };
     let mut scene = Scene::new(table);
     hear_next(&rt, &plan, &mut reader, &mut scene);
-    assert!(rt; shown(scene.table(), 0, 0) == Some(2) && is_heard(scene.table(), 0));
-    assert!(rt; scene.refusal() == None);
+    assert!(rt; is_heard(scene.table(), 0));
+    expect_scene(&rt, &scene, Some(2), None);
     hear_next(&rt, &plan, &mut reader, &mut scene);
     let first = Some(LineRefusal {
         line: 2,
         cause: LineCause::Log(LogCode::Hex),
     });
-    assert!(rt; scene.refusal() == first);
+    expect_scene(&rt, &scene, Some(2), first);
     scene.pass();
     hear_next(&rt, &plan, &mut reader, &mut scene);
     hear_next(&rt, &plan, &mut reader, &mut scene);
     hear_next(&rt, &plan, &mut reader, &mut scene);
     hear_next(&rt, &plan, &mut reader, &mut scene);
-    assert!(rt; scene.refusal() == first && shown(scene.table(), 0, 0) == Some(3));
+    expect_scene(&rt, &scene, Some(3), first);
     scene.pass();
     scene.pass();
     scene.close(&plan);
-    assert!(rt; scene.refusal() == first && shown(scene.table(), 0, 0) == Some(3));
+    expect_scene(&rt, &scene, Some(3), first);
     scene.pass();
-    assert!(rt; scene.refusal() == None && shown(scene.table(), 0, 0) == None);
+    expect_scene(&rt, &scene, None, None);
 }
