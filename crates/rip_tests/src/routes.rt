@@ -277,24 +277,27 @@ fn hosts(rt: &impl Abort, alloc: Global, count: u32) -> Result<String, AllocErro
     Ok(text)
 }
 
-/// With the plan's three there are 2,048 prefixes, and no more.
+/// How many hosts make up, with the plan's three prefixes, the most that there may be.
+const HOSTS: u32 = 2_045;
+
 #[test]
 fn most_prefixes(rt: HostRuntime) -> Result<(), Fail> {
     let plan = plan_of(&rt, rt.alloc(), TRIANGLE);
-    let text = hosts(&rt, rt.alloc(), 2_045)?;
+    let text = hosts(&rt, rt.alloc(), HOSTS)?;
     let tables = tables(&rt, rt.alloc(), &plan, text.as_bytes());
     assert!(rt; tables.prefix_count() == MOST_PREFIXES);
     expect_route(&rt, &tables, (1, 2_047), (2, false), &[NextHop::Over(0)]);
     Ok(())
 }
 
-/// Lines of one host more than there may be, behind lines of hosts and of a prefix that are known.
+/// A host and a prefix of the plan that are known, and a host more than there may be, behind the most.
 fn hosts_and_one(rt: &impl Abort, alloc: Global) -> Result<String, AllocError> {
-    let mut text = hosts(rt, alloc, 2_045)?;
+    let mut text = hosts(rt, alloc, HOSTS)?;
     text.push_str("r1 0.0.0.7/32 here\nr1 10.1.0.0/16 here\nr1 0.1.0.0/32 16 unreachable\n")?;
     Ok(text)
 }
 
+/// What is known can be told again, and one prefix more is refused.
 #[test]
 fn too_many_prefixes(rt: HostRuntime) -> Result<(), Fail> {
     let plan = plan_of(&rt, rt.alloc(), TRIANGLE);

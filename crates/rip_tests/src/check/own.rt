@@ -2,6 +2,7 @@
 
 ghost use Rattle.std.specs.Prelude.{◌<◌, length};
 ghost use Rattle.rip_check.specs.Cases.{plan_of, state_of};
+ghost use Rattle.rip_check.specs.Marks.{AreWrong};
 ghost use Rattle.rip_check.specs.OwnTells.{IsToldBy};
 ghost use Rattle.rip_routes.specs.OwnTables.{FitsOwn};
 ghost use Rattle.rip_table.specs.State.{Fits};
@@ -133,53 +134,62 @@ fn expect_told<T: Table>(rt: &impl Abort, table: &T) {
     }
 }
 
-/// Expects what is wrong at a router, asked alone and of all places that are found at once.
+/// Expects what is wrong at a router, asked alone and of all places that were found at once.
 fn expect_wrong<T: Table, G: RouteTables>(
     rt: &impl Abort,
-    alloc: Global,
     case: &Case<'_, T>,
     tables: &G,
+    places: &WrongPlaces,
     router: usize,
     wrong: Option<OwnPlace>,
 )
     requires told { IsToldBy (plan_of case.now) (G.tables tables.now) (state_of case.now) }
+    requires places { AreWrong (plan_of case.now) (state_of case.now) (G.tables tables.now)
+        places.now }
     requires router { router < length (plan_of case.now).routers }
 {
     assert!(rt; case.wrong(tables, router) == wrong);
-    match WrongPlaces::find(alloc, case.plan, tables, case.table) {
-        Ok(places) => assert!(rt; places.at(case, tables, router) == wrong),
-        Err(_) => panic!(rt; "no memory"),
-    }
+    assert!(rt; places.at(case, tables, router) == wrong);
 }
 
-/// Expects what is wrong with r1 and r3 of the dearer table.
+/// Expects what is wrong with the first prefix at r1 and r3, and that nothing is with the second at
+/// r3.
 fn expect_places<T: Table, G: RouteTables>(
     rt: &impl Abort,
-    alloc: Global,
     plan: &Plan,
     tables: &G,
     table: &T,
+    places: &WrongPlaces,
 )
     requires fits { Fits plan.now (T.state table.now) }
     requires told { IsToldBy plan.now (G.tables tables.now) (T.state table.now) }
+    requires places { AreWrong plan.now (T.state table.now) (G.tables tables.now) places.now }
 {
     assert!(rt; plan.routers() == 3 && table.prefix_count() == 3);
     let over = Some(place(rt, 2, 0, Wrong::Over(1)));
     let case = Case::new(plan, table, 0);
-    expect_wrong(rt, alloc, &case, tables, 0, None);
-    expect_wrong(rt, alloc, &case, tables, 2, over);
-    expect_wrong(rt, alloc, &Case::new(plan, table, 1), tables, 2, None);
+    expect_wrong(rt, &case, tables, places, 0, None);
+    expect_wrong(rt, &case, tables, places, 2, over);
+    expect_wrong(rt, &Case::new(plan, table, 1), tables, places, 2, None);
+}
+
+/// Expects of the dearer table what is told, and what is wrong.
+fn expect_dearer<G: RouteTables>(rt: &impl Abort, alloc: Global, plan: &Plan, tables: &G)
+    requires { FitsOwn plan.now (G.tables tables.now) }
+{
+    let Ok(table) = ToldTable::find(alloc, plan, tables) else {
+        panic!(rt; "no memory");
+    };
+    expect_told(rt, &table);
+    match WrongPlaces::find(alloc, plan, tables, &table) {
+        Ok(places) => expect_places(rt, plan, tables, &table, &places),
+        Err(_) => panic!(rt; "no memory"),
+    }
 }
 
 #[test]
 fn places_of_own_tables(rt: HostRuntime) {
     let plan = plan_of(&rt, rt.alloc(), TRIANGLE);
     let tables = tables(&rt, rt.alloc(), &plan, DEARER.as_bytes());
-    match ToldTable::find(rt.alloc(), &plan, &tables) {
-        Ok(table) => {
-            expect_told(&rt, &table);
-            expect_places(&rt, rt.alloc(), &plan, &tables, &table);
-        }
-        Err(_) => panic!(rt; "no memory"),
-    }
+    expect_dearer(&rt, rt.alloc(), &plan, &tables);
 }

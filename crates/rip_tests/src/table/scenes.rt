@@ -46,10 +46,10 @@ fn expect_scene<T: WindowTable>(
     rt: &impl Abort,
     scene: &Scene<T>,
     metric: Option<u32>,
-    refusal: Option<LineRefusal>,
+    refusal: &Option<LineRefusal>,
 ) {
     assert!(rt; shown(scene.table(), 0, 0) == metric);
-    assert!(rt; scene.refusal() == refusal);
+    assert!(rt; scene.refusal() == *refusal);
 }
 
 /// What is shown is the last that was told; the first refused line is named until three seconds have
@@ -67,23 +67,23 @@ fn an_episode_names_its_first_line(rt: HostRuntime) {
     let mut scene = Scene::new(table);
     hear_next(&rt, &plan, &mut reader, &mut scene);
     assert!(rt; is_heard(scene.table(), 0));
-    expect_scene(&rt, &scene, Some(2), None);
+    expect_scene(&rt, &scene, Some(2), &None);
     hear_next(&rt, &plan, &mut reader, &mut scene);
     let first = Some(LineRefusal {
         line: 2,
         cause: LineCause::Log(LogCode::Hex),
     });
-    expect_scene(&rt, &scene, Some(2), first);
+    expect_scene(&rt, &scene, Some(2), &first);
     scene.pass();
     hear_next(&rt, &plan, &mut reader, &mut scene);
     hear_next(&rt, &plan, &mut reader, &mut scene);
     hear_next(&rt, &plan, &mut reader, &mut scene);
     hear_next(&rt, &plan, &mut reader, &mut scene);
-    expect_scene(&rt, &scene, Some(3), first);
+    expect_scene(&rt, &scene, Some(3), &first);
     scene.pass();
     scene.pass();
     scene.close(&plan);
-    expect_scene(&rt, &scene, Some(3), first);
+    expect_scene(&rt, &scene, Some(3), &first);
     scene.pass();
-    expect_scene(&rt, &scene, None, None);
+    expect_scene(&rt, &scene, None, &None);
 }
