@@ -290,7 +290,7 @@ fn most_prefixes(rt: HostRuntime) -> Result<(), Fail> {
     Ok(())
 }
 
-/// A host and a prefix of the plan that are known, and a host more than there may be, behind the most.
+/// Lines of the most hosts, and behind them a known host, a prefix of the plan, and a host too many.
 fn hosts_and_one(rt: &impl Abort, alloc: Global) -> Result<String, AllocError> {
     let mut text = hosts(rt, alloc, HOSTS)?;
     text.push_str("r1 0.0.0.7/32 here\nr1 10.1.0.0/16 here\nr1 0.1.0.0/32 16 unreachable\n")?;
