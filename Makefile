@@ -6,7 +6,7 @@ PROGRAM = crates/ripaudit/out/ripaudit
 SHARE = $(DESTDIR)$(PREFIX)/share
 DOC = $(SHARE)/doc/ripaudit
 
-.PHONY: all demo test gate wrong-bodies wrong-bodies-apart install uninstall deb clean
+.PHONY: all demo test gate wrong-bodies wrong-bodies-beside install uninstall deb clean
 
 all: $(PROGRAM)
 
@@ -18,12 +18,14 @@ $(PROGRAM): crates.txt HANDLES $(shell find crates/*/src crates/*/specs crates/*
 	@sh packaging/build
 	@touch $(PROGRAM)
 
-# The gate goes from crate to crate, and leaves processors to the wrong bodies, which are tried beside it.
+# The gate goes from crate to crate, and leaves processors to the wrong bodies, which are tried beside it over the libraries that
+# it has built in a folder of this run.
 test:
-	$(MAKE) -j 2 --output-sync=line gate wrong-bodies-apart
+	@beside=$$(mktemp -d) && trap 'rm -rf "$$beside"' EXIT && trap 'exit 130' HUP INT TERM && \
+	    $(MAKE) -j 2 --output-sync=line gate wrong-bodies-beside BESIDE="$$beside"
 
 gate:
-	sh tests/gate $(ANEW)
+	sh tests/gate $(if $(BESIDE),--in "$(BESIDE)") $(ANEW)
 	sh tests/run $(PROGRAM)
 	sh tests/limits $(PROGRAM)
 	sh tests/pages $(PROGRAM)
@@ -31,12 +33,12 @@ gate:
 	sh tests/growths
 	sh tests/completions
 
-# The wrong bodies that `rt ci` does not try.
+# The wrong bodies, which `rt ci` does not try.
 wrong-bodies:
 	tests/wrong-bodies
 
-wrong-bodies-apart:
-	tests/wrong-bodies --apart
+wrong-bodies-beside:
+	tests/wrong-bodies --beside "$(BESIDE)"
 
 # The demo stays out of what is installed: it runs the program of the checkout.
 install: $(PROGRAM)

@@ -5,7 +5,7 @@ ghost use Rattle.rip_routes.specs.OwnTables.{FitsOwn};
 
 use crate::devices::Pieces;
 use crate::examples::TRIANGLE;
-use crate::fixtures::{metric, plan_of};
+use crate::fixtures::{joined, metric, plan_of};
 use rip_log::{FromRead, MOST_LINE_BYTES, Source, TextReader};
 use rip_plan::Plan;
 use rip_routes::{GridRoutes, NextHop, RouteTables, RoutesCause, RoutesError, collect_routes};
@@ -45,18 +45,17 @@ pub(crate) fn tables(rt: &impl Abort, alloc: Global, plan: &Plan, text: &[u8]) -
     }
 }
 
-/// Expects that a text is refused.
+/// Expects why a text is refused.
 fn expect_refused(
     rt: &impl Abort,
     alloc: Global,
     plan: &Plan,
     text: &[u8],
-    line: u32,
-    cause: RoutesCause,
+    expected: &RoutesError,
 ) {
     match told(rt, alloc, plan, text) {
         Ok(_) => panic!(rt; "tables"),
-        Err(error) => assert!(rt; error == RoutesError { line, cause }),
+        Err(error) => assert!(rt; error == *expected),
     }
 }
 
@@ -74,6 +73,16 @@ fn expect_route<T: RouteTables>(
     assert!(rt; tables.metric(router, k).get() == number);
     assert!(rt; tables.is_here(router, k) == is_here);
     assert!(rt; tables.next_hops(router, k) == hops);
+}
+
+/// A router's and a prefix's number; the metric, and whether the route is its own; its next hops.
+type ExpectedRoute<'a> = ((usize, usize), (u32, bool), &'a [NextHop]);
+
+/// Expects each of these routes.
+fn expect_routes<T: RouteTables>(rt: &impl Abort, tables: &T, routes: &[ExpectedRoute<'_>]) {
+    for (place, route, hops) in routes {
+        expect_route(rt, tables, *place, *route, hops);
+    }
 }
 
 /// The next hop at an address.
@@ -100,28 +109,31 @@ r3 10.1.0.0/16 16 unreachable
 r3 10.1.0.0/16 16 via 10.2.0.2
 r3 10.2.0.0/16 16 here";
 
-/// What these lines tell of routers 1 and 3.
-fn expect_routes<T: RouteTables>(rt: &impl Abort, tables: &T) {
-    expect_route(rt, tables, (0, 0), (1, true), &[]);
+/// Expects what these lines tell.
+fn expect_lines<T: RouteTables>(rt: &impl Abort, tables: &T) {
+    assert!(rt; tables.prefix_count() == 4);
+    assert!(rt; Prefix::parse("10.9.0.0/16") == Some(tables.prefix(3)));
+    assert!(rt; tables.is_listed(0) && !tables.is_listed(1) && tables.is_listed(2));
     let hops = [NextHop::Over(0), via(rt, "10.3.0.3")];
-    expect_route(rt, tables, (0, 1), (2, false), &hops);
-    expect_route(rt, tables, (0, 2), (16, false), &[]);
-    expect_route(rt, tables, (2, 2), (2, true), &[NextHop::Over(1)]);
-    expect_route(rt, tables, (2, 3), (1, true), &[]);
-    expect_route(rt, tables, (2, 0), (16, false), &[]);
-    expect_route(rt, tables, (2, 1), (16, false), &[]);
+    let routes: [ExpectedRoute<'_>; 9] = [
+        ((0, 0), (1, true), &[]),
+        ((0, 1), (2, false), &hops),
+        ((0, 2), (16, false), &[]),
+        ((0, 3), (16, false), &[]),
+        ((1, 3), (16, false), &[]),
+        ((2, 0), (16, false), &[]),
+        ((2, 1), (16, false), &[]),
+        ((2, 2), (2, true), &[NextHop::Over(1)]),
+        ((2, 3), (1, true), &[]),
+    ];
+    expect_routes(rt, tables, &routes);
 }
 
 #[test]
 fn lines_of_each_kind(rt: HostRuntime) {
     let plan = plan_of(&rt, rt.alloc(), TRIANGLE);
     let tables = tables(&rt, rt.alloc(), &plan, ROUTES.as_bytes());
-    assert!(rt; tables.prefix_count() == 4);
-    assert!(rt; Prefix::parse("10.9.0.0/16") == Some(tables.prefix(3)));
-    assert!(rt; tables.is_listed(0) && !tables.is_listed(1) && tables.is_listed(2));
-    expect_routes(&rt, &tables);
-    expect_route(&rt, &tables, (1, 3), (16, false), &[]);
-    expect_route(&rt, &tables, (0, 3), (16, false), &[]);
+    expect_lines(&rt, &tables);
 }
 
 /// Two routers, with a prefix at cost 5 on the link between them.
@@ -153,49 +165,75 @@ fn own_routes_without_a_metric(rt: HostRuntime) {
     let plan = plan_of(&rt, rt.alloc(), COSTS);
     let text = "x 10.1.0.0/16 here\ny 10.1.0.0/16 here\nx 10.2.0.0/16 here\n";
     let tables = tables(&rt, rt.alloc(), &plan, text.as_bytes());
-    expect_route(&rt, &tables, (0, 0), (5, true), &[]);
-    expect_route(&rt, &tables, (1, 0), (1, true), &[]);
-    expect_route(&rt, &tables, (0, 1), (1, true), &[]);
+    let routes: [ExpectedRoute<'_>; 3] = [
+        ((0, 0), (5, true), &[]),
+        ((1, 0), (1, true), &[]),
+        ((0, 1), (1, true), &[]),
+    ];
+    expect_routes(&rt, &tables, &routes);
 }
 
-/// Texts and the cause for which their last line is refused, the second.
-const REFUSED: [(&str, RoutesCause); 26] = [
-    ("#\nr1", RoutesCause::Fields),
-    ("#\nr1 10.1.0.0/16", RoutesCause::Fields),
-    ("#\nr1 10.1.0.0/16 , here", RoutesCause::Fields),
-    ("#\nr1 10.1.0.0/16 2 over a b", RoutesCause::Fields),
+/// Lines, and the cause for which each is refused.
+const REFUSED: [(&str, RoutesCause); 5] = [
     (
-        "#\nrouter r1 prefix 10.1.0.0/16 unclear: missing on a",
+        "r1
+r1 10.1.0.0/16
+r1 10.1.0.0/16 , here
+r1 10.1.0.0/16 2 over a b
+router r1 prefix 10.1.0.0/16 unclear: missing on a",
         RoutesCause::Fields,
     ),
-    ("#\nroutes 3 routers", RoutesCause::Router),
-    ("#\nr4 10.1.0.0/16 here", RoutesCause::Router),
-    ("#\nR1 a 0 nothing", RoutesCause::Router),
-    ("#\nr1 a not heard", RoutesCause::Prefix),
-    ("#\nr1 10.1.0.0 here", RoutesCause::Prefix),
-    ("#\nr1 10.1.0.1/16 0 nothing", RoutesCause::Prefix),
-    ("#\nr1 10.1.0.0/16 here over a", RoutesCause::Metric),
-    ("#\nr1 10.1.0.0/16 unclear: two ways", RoutesCause::Metric),
-    ("#\nr1 10.1.0.0/16 0 over a", RoutesCause::Metric),
-    ("#\nr1 10.1.0.0/16 17 over a", RoutesCause::Metric),
-    ("#\nr1 10.1.0.0/16 02 over a", RoutesCause::Metric),
-    ("#\nr1 10.1.0.0/16 0x2 nothing", RoutesCause::Metric),
-    ("#\nr1 10.1.0.0/16 3", RoutesCause::Way),
-    ("#\nr1 10.1.0.0/16 unreachable", RoutesCause::Way),
-    ("#\nr1 10.1.0.0/16 15 unreachable", RoutesCause::Way),
-    ("#\nr1 10.1.0.0/16 2 over b", RoutesCause::Way),
-    ("#\nr1 10.1.0.0/16 16 over b", RoutesCause::Way),
-    ("#\nr1 10.1.0.0/16 2 over d", RoutesCause::Way),
-    ("#\nr1 10.1.0.0/16 2 via 10.1.0.02", RoutesCause::Way),
-    ("#\nr1 10.1.0.0/16 2 by 10.1.0.2", RoutesCause::Way),
-    ("#\nr1 10.1.0.0/16 2 here\r\r", RoutesCause::Way),
+    (
+        "routes 3 routers
+r4 10.1.0.0/16 here
+R1 a 0 nothing",
+        RoutesCause::Router,
+    ),
+    (
+        "r1 a not heard
+r1 10.1.0.0 here
+r1 10.1.0.1/16 0 nothing",
+        RoutesCause::Prefix,
+    ),
+    (
+        "r1 10.1.0.0/16 here over a
+r1 10.1.0.0/16 unclear: two ways
+r1 10.1.0.0/16 0 over a
+r1 10.1.0.0/16 17 over a
+r1 10.1.0.0/16 02 over a
+r1 10.1.0.0/16 0x2 nothing",
+        RoutesCause::Metric,
+    ),
+    (
+        "r1 10.1.0.0/16 3
+r1 10.1.0.0/16 unreachable
+r1 10.1.0.0/16 15 unreachable
+r1 10.1.0.0/16 2 over b
+r1 10.1.0.0/16 16 over b
+r1 10.1.0.0/16 2 over d
+r1 10.1.0.0/16 2 via 10.1.0.02
+r1 10.1.0.0/16 2 by 10.1.0.2
+r1 10.1.0.0/16 2 here\r\r",
+        RoutesCause::Way,
+    ),
 ];
+
+/// Expects why a line is refused that stands behind a comment.
+fn expect_second(rt: &impl Abort, alloc: Global, line: &str, expected: &RoutesError) {
+    let plan = plan_of(rt, alloc, TRIANGLE);
+    match joined(alloc, "#\n", line) {
+        Ok(text) => expect_refused(rt, alloc, &plan, text.as_bytes(), expected),
+        Err(_) => panic!(rt; "no memory"),
+    }
+}
 
 #[test]
 fn lines_are_refused(rt: HostRuntime) {
-    let plan = plan_of(&rt, rt.alloc(), TRIANGLE);
-    for (text, cause) in REFUSED {
-        expect_refused(&rt, rt.alloc(), &plan, text.as_bytes(), 2, cause);
+    for (lines, cause) in REFUSED {
+        let error = RoutesError { line: 2, cause };
+        for line in lines.split('\n') {
+            expect_second(&rt, rt.alloc(), line, &error);
+        }
     }
 }
 
@@ -221,7 +259,8 @@ fn a_metric_is_changed(rt: HostRuntime) {
             old: metric(&rt, old),
             new: metric(&rt, new),
         };
-        expect_refused(&rt, rt.alloc(), &plan, text.as_bytes(), 3, cause);
+        let error = RoutesError { line: 3, cause };
+        expect_refused(&rt, rt.alloc(), &plan, text.as_bytes(), &error);
     }
 }
 
@@ -234,31 +273,31 @@ fn long_line(alloc: Global, front: &str, size: usize) -> Result<Vec<u8>, AllocEr
     Ok(text)
 }
 
+/// Expects why a text is refused whose first line has so many bytes.
+fn expect_long(rt: &impl Abort, alloc: Global, front: &str, size: usize, expected: &RoutesError) {
+    let plan = plan_of(rt, alloc, TRIANGLE);
+    match long_line(alloc, front, size) {
+        Ok(text) => expect_refused(rt, alloc, &plan, text.as_slice(), expected),
+        Err(_) => panic!(rt; "no memory"),
+    }
+}
+
 /// A line that is too long is refused, whatever it says.
 #[test]
-fn long_lines(rt: HostRuntime) -> Result<(), Fail> {
-    let plan = plan_of(&rt, rt.alloc(), TRIANGLE);
+fn long_lines(rt: HostRuntime) {
+    let (most, more) = (MOST_LINE_BYTES, MOST_LINE_BYTES.saturating_add(1));
+    let behind = RoutesError {
+        line: 2,
+        cause: RoutesCause::Fields,
+    };
+    let too_long = RoutesError {
+        line: 1,
+        cause: RoutesCause::LongLine,
+    };
     for front in ["#", ",", "routes: ", "r1 10.1.0.0/16 here,"] {
-        let text = long_line(rt.alloc(), front, MOST_LINE_BYTES)?;
-        expect_refused(
-            &rt,
-            rt.alloc(),
-            &plan,
-            text.as_slice(),
-            2,
-            RoutesCause::Fields,
-        );
-        let text = long_line(rt.alloc(), front, MOST_LINE_BYTES.saturating_add(1))?;
-        expect_refused(
-            &rt,
-            rt.alloc(),
-            &plan,
-            text.as_slice(),
-            1,
-            RoutesCause::LongLine,
-        );
+        expect_long(&rt, rt.alloc(), front, most, &behind);
+        expect_long(&rt, rt.alloc(), front, more, &too_long);
     }
-    Ok(())
 }
 
 /// The prefix of a host.
@@ -280,13 +319,18 @@ fn hosts(rt: &impl Abort, alloc: Global, count: u32) -> Result<String, AllocErro
 /// How many hosts make up, with the plan's three prefixes, the most that there may be.
 const HOSTS: u32 = 2_045;
 
+/// Expects the most prefixes, and the route for the last.
+fn expect_most<T: RouteTables>(rt: &impl Abort, tables: &T) {
+    assert!(rt; tables.prefix_count() == MOST_PREFIXES);
+    expect_route(rt, tables, (1, 2_047), (2, false), &[NextHop::Over(0)]);
+}
+
 #[test]
 fn most_prefixes(rt: HostRuntime) -> Result<(), Fail> {
-    let plan = plan_of(&rt, rt.alloc(), TRIANGLE);
     let text = hosts(&rt, rt.alloc(), HOSTS)?;
+    let plan = plan_of(&rt, rt.alloc(), TRIANGLE);
     let tables = tables(&rt, rt.alloc(), &plan, text.as_bytes());
-    assert!(rt; tables.prefix_count() == MOST_PREFIXES);
-    expect_route(&rt, &tables, (1, 2_047), (2, false), &[NextHop::Over(0)]);
+    expect_most(&rt, &tables);
     Ok(())
 }
 
@@ -300,10 +344,13 @@ fn hosts_and_one(rt: &impl Abort, alloc: Global) -> Result<String, AllocError> {
 /// What is known can be told again, and one prefix more is refused.
 #[test]
 fn too_many_prefixes(rt: HostRuntime) -> Result<(), Fail> {
-    let plan = plan_of(&rt, rt.alloc(), TRIANGLE);
     let text = hosts_and_one(&rt, rt.alloc())?;
-    let cause = RoutesCause::TooManyPrefixes;
-    expect_refused(&rt, rt.alloc(), &plan, text.as_bytes(), 2_048, cause);
+    let plan = plan_of(&rt, rt.alloc(), TRIANGLE);
+    let error = RoutesError {
+        line: 2_048,
+        cause: RoutesCause::TooManyPrefixes,
+    };
+    expect_refused(&rt, rt.alloc(), &plan, text.as_bytes(), &error);
     Ok(())
 }
 

@@ -71,42 +71,25 @@ fn place(rt: &impl Abort, router: usize, prefix: usize, wrong: Wrong) -> OwnPlac
     }
 }
 
-/// Expects the verdict on tables.
-fn expect_verdict<G: RouteTables>(
-    rt: &impl Abort,
-    alloc: Global,
-    plan: &Plan,
-    tables: &G,
-    verdict: &OwnVerdict,
-)
-    requires { FitsOwn plan.now (G.tables tables.now) }
-{
-    match ToldTable::find(alloc, plan, tables) {
-        Ok(table) => assert!(rt; judge_own(plan, tables, &table) == *verdict),
+/// Expects the verdict on a text of routes.
+fn expect_verdict(rt: &impl Abort, alloc: Global, text: &str, verdict: &OwnVerdict) {
+    let plan = plan_of(rt, alloc, TRIANGLE);
+    let tables = tables(rt, alloc, &plan, text.as_bytes());
+    match ToldTable::find(alloc, &plan, &tables) {
+        Ok(table) => assert!(rt; judge_own(&plan, &tables, &table) == *verdict),
         Err(_) => panic!(rt; "no memory"),
     }
 }
 
 #[test]
 fn verdicts_on_own_tables(rt: HostRuntime) {
-    let plan = plan_of(&rt, rt.alloc(), TRIANGLE);
+    let dearer = place(&rt, 1, 0, Wrong::Metric(metric(&rt, 1)));
     let nobody = Address::parse("10.1.0.77").expect(&rt, "an address");
-    let verdicts = [
-        (SETTLED, OwnVerdict::Settled),
-        (
-            DEARER,
-            OwnVerdict::Unsettled(place(&rt, 1, 0, Wrong::Metric(metric(&rt, 1)))),
-        ),
-        (
-            STRANGER,
-            OwnVerdict::Unsettled(place(&rt, 0, 1, Wrong::Nobody(nobody))),
-        ),
-        (ALONE, OwnVerdict::NoRoutes(1)),
-    ];
-    for (text, verdict) in verdicts {
-        let tables = tables(&rt, rt.alloc(), &plan, text.as_bytes());
-        expect_verdict(&rt, rt.alloc(), &plan, &tables, &verdict);
-    }
+    let stranger = place(&rt, 0, 1, Wrong::Nobody(nobody));
+    expect_verdict(&rt, rt.alloc(), SETTLED, &OwnVerdict::Settled);
+    expect_verdict(&rt, rt.alloc(), DEARER, &OwnVerdict::Unsettled(dearer));
+    expect_verdict(&rt, rt.alloc(), STRANGER, &OwnVerdict::Unsettled(stranger));
+    expect_verdict(&rt, rt.alloc(), ALONE, &OwnVerdict::NoRoutes(1));
 }
 
 /// Expects which routers tell of no table, from each router on.
