@@ -85,11 +85,12 @@ fn is_offered_across<T: Table>(
     let numbers = case.plan.on_link(own.link);
     for j in numbers {
         let across = case.plan.interface(*j);
-        if across.router != own.router && has_hop_at(case.plan, *j, address, case.prefix) {
-            let offer = (u32::from(own.cost) + seen_at(case, *j)).min(16);
-            if offer == metric {
-                return true;
-            }
+        let offer = (u32::from(own.cost) + seen_at(case, *j)).min(16);
+        if offer == metric
+            && across.router != own.router
+            && has_hop_at(case.plan, *j, address, case.prefix)
+        {
+            return true;
         }
     }
     false

@@ -7,7 +7,7 @@ use Rattle.rip_check.proofs.AcrossLemmas.{across_number, across_own, across_plac
 use Rattle.rip_check.proofs.HopLemmas.{OffersAt, from_offer, hop_router, hop_stays, hop_was, to_offer}
 use Rattle.rip_check.proofs.NetLemmas.{its_cost, open_interface}
 use Rattle.rip_check.proofs.own_audit.is_offered_across.Goals as goal
-use Rattle.rip_check.proofs.own_audit.is_offered_across.Goals.{then-across-own+then-has_hop_at+else-offer-metric, else-across-own, else-across-own-via-then-across-own+else-has_hop_at, else-across-own-via-else-across-own}
+use Rattle.rip_check.proofs.own_audit.is_offered_across.Goals.{else-offer-metric-via-then-offer-metric+then-across-own+else-has_hop_at, else-offer-metric-via-then-offer-metric+else-across-own, else-offer-metric-via-else-offer-metric}
 
 pub on_link-numbers-requires : goal.on_link-numbers-requires
 on_link-numbers-requires g c = c.lawful.ensures.network.link_known c.requires.own.0 c.args.own.router c.args.own.link c.args.own.cost c.requires.own.1
@@ -21,8 +21,8 @@ has_hop_at-requires g c = across_number c.args.case.now.plan.now c.args.own.link
 pub seen_at-requires : goal.seen_at-requires
 seen_at-requires g c = across_number c.args.case.now.plan.now c.args.own.link c.on_link-numbers.result.now c.on_link-numbers.ensures.exact c.loop-j.j-index c.loop-j-test.true
 
-pub returns-then-offer-metric : goal.returns-then-offer-metric
-returns-then-offer-metric g c =
+pub returns-then-has_hop_at : goal.returns-then-has_hop_at
+returns-then-has_hop_at g c =
     let case = c.args.case.now in
     let n = case.plan.now in
     let b = block_of case in
@@ -69,15 +69,12 @@ loop-j-preserved g c = λ k s lt at.
           let here : OffersAt (network_of case) told own.router own.link p a m own.cost j s = rw e at at in
           let has = hop_was n c.lawful.ensures.plan b j s own.link p a there here.has in
           let who : s ≡ x.router = hop_router n j x.router s own.link own.link p a x.cost its has in
-          elim c.if-across-own.branch [
-            | then-across-own+then-has_hop_at+else-offer-metric w ↦
-                let heard : own.cost + unwrap_or (metric_at told j p) 16 ≡ w.from.result + w.seen_at.result = rw (w.from.ensures, w.seen_at.ensures.value) refl in
-                w.if-offer-metric.false (omega (arith, heard, w.min-offer.ensures, here.value))
-            | else-across-own w ↦ elim w.else-across-own.branch [
-              | else-across-own-via-then-across-own+else-has_hop_at w' ↦
-                  not_from_Decides _ (w'.has_hop_at.ensures x.router own.link x.cost its) w'.if-has_hop_at.false (rw who at has)
-              | else-across-own-via-else-across-own w' ↦ here.other (who ∙ w'.if-across-own.false)
-            ]
+          let heard : own.cost + unwrap_or (metric_at told j p) 16 ≡ c.from.result + c.seen_at.result = rw (c.from.ensures, c.seen_at.ensures.value) refl in
+          elim c.else-offer-metric.branch [
+            | else-offer-metric-via-then-offer-metric+then-across-own+else-has_hop_at w ↦
+                not_from_Decides _ (w.has_hop_at.ensures x.router own.link x.cost its) w.if-has_hop_at.false (rw who at has)
+            | else-offer-metric-via-then-offer-metric+else-across-own w ↦ here.other (who ∙ w.if-across-own.false)
+            | else-offer-metric-via-else-offer-metric w ↦ w.if-offer-metric.false (omega (arith, heard, c.min-offer.ensures, here.value))
           ]
     ]
 
