@@ -3,7 +3,7 @@ use Rattle.std.proofs.Common.{◌≡◌, ◌≢◌, ℕ, zero, suc, ◌+◌, ◌
 use Rattle.std.proofs.lemmas.List.{get_or_append_left, get_or_push, get_or-map, length-map, get_or-set_same, get_or-set_other, same_lists, map-set, take_more, length-take-le}
 use Rattle.std.proofs.Math.ListN.{set, length-set}
 use Rattle.std.specs.Prelude.{◌==◌, slice_get}
-use Rattle.std.proofs.lemmas.Bool.{cases_Bool}
+use Rattle.std.proofs.lemmas.Bool.{cases_Bool, eq-eqb}
 use Rattle.std.proofs.lemmas.Bool.Decides.{nat_tests}
 use Rattle.std.specs.List.{Contains}
 use Rattle.std.specs.List.Sorted.{IsStrictlyIncreasing}
@@ -45,30 +45,43 @@ pub numbers_where_push : {A : Type 0} (test : A → Bool) (n : ℕ) (xs : List A
 numbers_where_push test n [] x = grind arith
 numbers_where_push test n (y ∷ ys) x = grind (arith, numbers_where_push test (n + 1) ys x)
 
+-- the same at each number
+each_below_same : {A : Type 0} (n : ℕ) (f g : ℕ → A) → ((k : ℕ) → g k ≡ f k) → each_below n f ≡ each_below n g
+each_below_same zero f g same = refl
+each_below_same (suc n) f g same = grind (arith, each_below_same n f g same, same n)
+
+-- the numbers of the items that pass the test of each number, with one more item
+module _ {A V : Type 0} (view : V → List ℕ) (vs : List V) (n : ℕ) (test : ℕ → A → Bool) (xs : List A) (i : ℕ) (x : A)
+    (kept : map view vs ≡ each_below n (λ k. numbers_where (test k) 0 (take i xs))) (within : i < length xs) (is : x ≡ get_or xs i x) where
+  abbrev old : ℕ → List ℕ
+  old = λ k. numbers_where (test k) 0 (take i xs)
+
+  abbrev new : ℕ → List ℕ
+  new = λ k. numbers_where (test k) 0 (take (i + 1) xs)
+
+  more : (k : ℕ) → new k ≡ cond (test k x) (old k ++ i ∷ []) (old k)
+  more k =
+      let front : take (i + 1) xs ≡ take i xs ++ x ∷ [] = take_more xs i x within ∙ ap (λ y. take i xs ++ y ∷ []) (sym is) in
+      grind (arith, length-take-le i xs, numbers_where_push (test k) 0 (take i xs) x)
+
+  -- which passes that of one number alone
+  pub grouped_with : (l : ℕ) (v w : V) → l < n → test l x ≡ true → ((k : ℕ) → k ≢ l → test k x ≡ false) → v ≡ get_or vs l v → view w ≡ view v ++ i ∷ []
+      → map view (set vs l w) ≡ each_below n (λ k. numbers_where (test k) 0 (take (i + 1) xs))
+  grouped_with l v w below passes alone at pushed =
+      let here : view w ≡ new l = grind (arith, kept_at view vs n old l v kept below at, more l) in
+      map-set view vs l w ∙ ap (λ ls. set ls l (view w)) kept ∙ ap (λ ns. set (each_below n old) l ns) here ∙ each_below_set n old new l below (λ k apart. grind (arith, alone k apart, more k))
+
+  -- which passes none
+  pub grouped_less : ((k : ℕ) → test k x ≡ false) → map view vs ≡ each_below n (λ k. numbers_where (test k) 0 (take (i + 1) xs))
+  grouped_less none = kept ∙ each_below_same n old new (λ k. grind (arith, none k, more k))
+
 -- the numbers of the items of each key, with one more item
 pub grouped_more : {A V : Type 0} (view : V → List ℕ) (vs : List V) (n : ℕ) (key : A → ℕ) (xs : List A) (i : ℕ) (x : A) (v w : V)
     → map view vs ≡ each_below n (λ k. numbers_where (λ y. key y == k) 0 (take i xs)) → i < length xs → x ≡ get_or xs i x
     → key x < n → v ≡ get_or vs (key x) v → view w ≡ view v ++ i ∷ []
     → map view (set vs (key x) w) ≡ each_below n (λ k. numbers_where (λ y. key y == k) 0 (take (i + 1) xs))
-grouped_more {A} view vs n key xs i x v w kept within is below at pushed =
-    map-set view vs (key x) w ∙ ap (λ ls. set ls (key x) (view w)) kept ∙ ap (λ l. set (each_below n old) (key x) l) here ∙ each_below_set n old new (key x) below others
-  where
-    old : ℕ → List ℕ
-    old = λ k. numbers_where (λ y. key y == k) 0 (take i xs)
-
-    new : ℕ → List ℕ
-    new = λ k. numbers_where (λ y. key y == k) 0 (take (i + 1) xs)
-
-    more : (k : ℕ) → new k ≡ cond (key x == k) (old k ++ i ∷ []) (old k)
-    more k =
-        let front : take (i + 1) xs ≡ take i xs ++ x ∷ [] = take_more xs i x within ∙ ap (λ y. take i xs ++ y ∷ []) (sym is) in
-        grind (arith, length-take-le i xs, numbers_where_push (λ (y : A). key y == k) 0 (take i xs) x)
-
-    here : view w ≡ new (key x)
-    here = grind (arith, nat_tests, kept_at view vs n old (key x) v kept below at, more (key x))
-
-    others : (k : ℕ) → k ≢ key x → new k ≡ old k
-    others k apart = grind (arith, nat_tests, more k)
+grouped_more view vs n key xs i x v w kept within is below at pushed =
+    grouped_with view vs n (λ k y. key y == k) xs i x kept within is (key x) v w below (eq-eqb (key x) (key x) refl) (λ k apart. grind (arith, nat_tests)) at pushed
 
 pub contains_at : {A : Type 0} (xs : List A) (k : ℕ) (x : A) → slice_get xs k ≡ Some x → Contains xs x
 contains_at xs k x h = (k, slice_get_within xs k x h, get_or_from_slice_get xs k x x h)

@@ -1,9 +1,9 @@
 -- What the look-ups of a lawful plan find, in the words of its relations.
 use Rattle.rip_plan.proofs.ClashLemmas.{find_gives, find_none}
 use Rattle.std.proofs.Common.{◌≡◌, ℕ, zero, suc, ◌+◌, ◌⊎◌, ◌↔◌, inl, inr, List, [], ◌∷◌, Bool, true, ◌&&◌, Option, Some, None, refl, sym, ◌∙◌, ap, subst, arith}
-use Rattle.std.proofs.lemmas.Bool.{cases_Bool, eq-eqb, eqb-true}
+use Rattle.std.proofs.lemmas.Bool.{and_parts, cases_Bool, eq-eqb, eqb-true}
 use Rattle.std.specs.Prelude.{slice_get, ◌==◌, find}
-use Rattle.std.specs.Option.{option_or}
+use Rattle.std.specs.Option.{is_some, option_or}
 use Rattle.std.specs.List.{Contains, position_from}
 use Rattle.std.specs.Str.{bytes_eq}
 use Rattle.std.proofs.lemmas.Option.{none-some, same_Some}
@@ -19,8 +19,8 @@ use Rattle.rip_plan.specs.Seats as seated
 use Rattle.rip_plan.specs.Passes.{same_prefix}
 use Rattle.rip_plan.specs.Addresses.{holder_at}
 use Rattle.rip_plan.specs.Names.{number_of_name}
-use Rattle.rip_plan.specs.Network.{Network, addresses_of, number_of_prefix, found_at, is_on, is_of, numbers_where, is_carrying, first_carrying, is_owned, own_seat, cost_on, cost_at, direct_at}
-use Rattle.rip_plan.specs.Relations.{IsPrefix, IsInterface, IsConnected, HasAddress, HasOwnAddress, IsAt, IsInside, IsPlace, IsOwnWith, Carries, Touches, IsDirect, IsLawful}
+use Rattle.rip_plan.specs.Network.{Network, addresses_of, number_of_prefix, found_at, is_on, is_of, has_gateway, numbers_where, is_carrying, first_carrying, is_owned, own_seat, cost_on, cost_at, direct_at}
+use Rattle.rip_plan.specs.Relations.{IsPrefix, IsInterface, IsConnected, HasAddress, HasOwnAddress, IsAt, IsInside, IsPlace, IsOwnWith, Carries, Touches, IsDirect, IsGatewayAt, IsLawful}
 use Rattle.rip_plan.proofs.HeldAddressLemmas.{holder_gives, holder_none}
 use Rattle.rip_plan.proofs.ItemLemmas.{cases_option, position_finds, position_none, none_at}
 use Rattle.rip_plan.proofs.NumberingLemmas.{same_is, same_self}
@@ -189,13 +189,13 @@ own_finds n laws k p r h =
           rw e (ap (λ (s : Seat). Some s) (has.says ∙ one_seat n k p _ _ its h.place))
     ]
 
--- ---- interfaces on a link and of a router
+-- ---- interfaces on a link and of a router, and gateways for a prefix
 
--- the numbers of the interfaces that pass
-numbers_give : (test : Interface → Bool) (is : List Interface) (i : ℕ) → Contains (numbers_where test 0 is) i → (x : Interface) × (slice_get is i ≡ Some x) × (test x ≡ true)
+-- the numbers of the items that pass
+numbers_give : {A : Type 0} (test : A → Bool) (is : List A) (i : ℕ) → Contains (numbers_where test 0 is) i → (x : A) × (slice_get is i ≡ Some x) × (test x ≡ true)
 numbers_give test is i h = let (k, at) = at_contains (numbers_where test 0 is) i h in grind (arith, number_passes test 0 is k i at)
 
-numbers_find : (test : Interface → Bool) (is : List Interface) (i : ℕ) (x : Interface) → slice_get is i ≡ Some x → test x ≡ true → Contains (numbers_where test 0 is) i
+numbers_find : {A : Type 0} (test : A → Bool) (is : List A) (i : ℕ) (x : A) → slice_get is i ≡ Some x → test x ≡ true → Contains (numbers_where test 0 is) i
 numbers_find test is i x h passes = let (k, at) = passing_number test 0 is i x h passes in grind (arith, contains_at (numbers_where test 0 is) k i)
 
 pub on_link_gives : (n : Network) (l i : ℕ) → Contains (numbers_where (is_on l) 0 n.interfaces) i → (r c : ℕ) × IsInterface n i r l c
@@ -213,6 +213,31 @@ of_router_gives n r i h =
 
 pub of_router_finds : (n : Network) (r i l c : ℕ) → IsInterface n i r l c → Contains (numbers_where (is_of r) 0 n.interfaces) i
 of_router_finds n r i l c h = numbers_find (is_of r) n.interfaces i h.interface h.listed (eq-eqb h.interface.router r h.router)
+
+-- a place that passes is a router's own prefix with a gateway
+gateway_there : (n : Network) (p k : ℕ) (q : Place) → slice_get n.places k ≡ Some q → has_gateway p q ≡ true → (r a : ℕ) × IsGatewayAt n k p r a
+gateway_there n p k q at test =
+    let parts = and_parts (q.prefix == p) (is_some (seated.gateway_of q.seat)) test in
+    go (eqb-true q.prefix p parts.0) q.seat refl parts.1
+  where
+    go : q.prefix ≡ p → (seat : Seat) → q.seat ≡ seat → is_some (seated.gateway_of seat) ≡ true → (r a : ℕ) × IsGatewayAt n k p r a
+    go same (seats.Link l) e some = absurd cc
+    go same (seats.Own own) e some =
+        let is : slice_get n.places k ≡ Some (record { prefix = p; seat = seats.Own own }) =
+        at ∙ ap (λ (m : ℕ). Some (record { prefix = m; seat = q.seat })) same ∙ ap (λ (s : Seat). Some (record { prefix = p; seat = s })) e in
+        elim (cases_option own.via) [
+          | inl f ↦ let clash = rw f at some in absurd cc
+          | inr (a, f) ↦ (own.router, a, record { own = own; place = record { listed = is }; router = refl; says = f })
+        ]
+
+gateway_passes : (n : Network) (p k r a : ℕ) → IsGatewayAt n k p r a → Contains (numbers_where (has_gateway p) 0 n.places) k
+gateway_passes n p k r a h = numbers_find (has_gateway p) n.places k (record { prefix = p; seat = seats.Own h.own }) h.place.listed (grind (arith, nat_tests, h.says))
+
+pub gateways_exact : (n : Network) (p : ℕ) (numbers : List ℕ) → numbers ≡ numbers_where (has_gateway p) 0 n.places → (k : ℕ) → Contains numbers k ↔ ((r a : ℕ) × IsGatewayAt n k p r a)
+gateways_exact n p numbers e k = rw e (
+  λ h. let (q, at, test) = numbers_give (has_gateway p) n.places k h in gateway_there n p k q at test,
+  λ h. gateway_passes n p k h.0 h.1 h.2,
+)
 
 -- ---- an interface by the name of its link and its address
 
@@ -234,6 +259,9 @@ holder_finds n laws i l a has =
       | inl e ↦ absurd (holder_none n i l a has e)
       | inr (j, e) ↦ e ∙ ap (λ (m : ℕ). Some m) (laws.addresses_differ j i l a (holder_gives n j l a e) has)
     ]
+
+pub holder_exact : (n : Network) → IsLawful n → (l a : ℕ) (o : Option ℕ) → o ≡ holder_at l a (addresses_of n) → (i : ℕ) → (o ≡ Some i) ↔ HasAddress n i l a
+holder_exact n laws l a o e i = (λ h. holder_gives n i l a (sym e ∙ h), λ h. e ∙ holder_finds n laws i l a h)
 
 pub found_gives : (n : Network) (name : List ℕ) (a i : ℕ) → found_at n name a ≡ Some i → IsAt n name a i
 found_gives n name a i h = grind (arith, at_first (λ m. bytes_eq m name) n.links, bytes_eq-Decides, holder_gives n i)

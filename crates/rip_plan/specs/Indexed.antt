@@ -6,7 +6,7 @@ use Rattle.std.specs.HashSet.{contains}
 use Rattle.rip_wire.specs.Prefix.{Block}
 use Rattle.rip_plan.specs.Addresses.{holder_at}
 use Rattle.rip_plan.specs.Names.{number_of_name}
-use Rattle.rip_plan.specs.Network.{Network, addresses_of, each_below, is_item, is_of, is_on, number_of_prefix, numbers_where, pair_eq, same_item}
+use Rattle.rip_plan.specs.Network.{Network, addresses_of, each_below, has_gateway, is_item, is_of, is_on, number_of_prefix, numbers_where, pair_eq, same_item}
 use Rattle.rip_plan.specs.Passes.{same_prefix}
 use Rattle.rip_plan.specs.Relations.{IsLawful}
 use Rattle.rip_plan.specs.Seats.{is_kept}
@@ -34,6 +34,9 @@ pub record IsIndexed (plan : Inside) : Type 0 where
   pub of_router : map (λ w. w.items) plan.of_router.items
       ≡ each_below (length plan.routers.items)
       (λ r. numbers_where (is_of r) 0 plan.interfaces.items)
+  pub gateway_places : map (λ w. w.items) plan.gateway_places.items
+      ≡ each_below (length plan.prefixes.items)
+      (λ k. numbers_where (has_gateway k) 0 plan.places.items)
   pub names : (name : List ℕ) → get_by_text plan.names name
       ≡ number_of_name name (map string_bytes plan.links.items)
   pub router_names : (name : List ℕ) → get_by_text plan.router_names name

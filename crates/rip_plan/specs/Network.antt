@@ -1,6 +1,6 @@
 -- What a plan is: its links and routers by their names, whether each link has a list of what it
 -- exchanges and what stands in the lists, its interfaces, and its prefixes with their places.
-use Rattle.std.specs.Prelude.{ℕ, zero, suc, ◌+◌, Bool, if◌then◌else◌, option_and_then, ◌&&◌, ◌==◌, List, [], ◌∷◌, ◌++◌, length, map, find, Option, Some, None, option_map, Result, Ok}
+use Rattle.std.specs.Prelude.{ℕ, zero, suc, ◌+◌, Bool, if◌then◌else◌, option_and_then, ◌&&◌, ◌==◌, List, [], ◌∷◌, ◌++◌, length, map, find, Option, Some, None, is_some, option_map, Result, Ok}
 use Rattle.std.specs.List.{position_from}
 use Rattle.std.specs.Option.{option_or}
 use Rattle.rip_wire.specs.Prefix.{Block}
@@ -114,6 +114,10 @@ is_carrying l k q = seated.is_on l q.seat && q.prefix == k
 -- the place is prefix k as the router's own
 abbrev pub is_owned : ℕ → ℕ → Place → Bool
 is_owned r k q = seated.is_with r q.seat && q.prefix == k
+
+-- the place is prefix k's, and has a gateway
+abbrev pub has_gateway : ℕ → Place → Bool
+has_gateway k q = q.prefix == k && is_some (seated.gateway_of q.seat)
 
 -- the number of the first place of prefix k on the link, counted from n
 abbrev pub first_carrying : ℕ → ℕ → ℕ → List Place → Option ℕ

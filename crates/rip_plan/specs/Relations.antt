@@ -141,9 +141,13 @@ abbrev pub IsKept : Network → ℕ → ℕ → Type 0
 IsKept n r p =
     ((k : ℕ) × IsOwnWith n k p r (λ own. own.kept ≡ true)) ⊎ ((l : ℕ) × IsAttached n r p l)
 
+-- place k of the plan is prefix p as router r's own, with gateway a
+abbrev pub IsGatewayAt : Network → ℕ → ℕ → ℕ → ℕ → Type 0
+IsGatewayAt n k p r a = IsOwnWith n k p r (λ own. own.via ≡ Some a)
+
 -- router r may tell a, a gateway outside of the plan, as next hop of its own prefix p
 abbrev pub IsGateway : Network → ℕ → ℕ → ℕ → Type 0
-IsGateway n r p a = (k : ℕ) × IsOwnWith n k p r (λ own. own.via ≡ Some a)
+IsGateway n r p a = (k : ℕ) × IsGatewayAt n k p r a
 
 -- link l has a list of what it exchanges
 abbrev pub HasList : Network → ℕ → Type 0

@@ -4,7 +4,7 @@ ghost use Rattle.std.specs.Prelude.{◌≡◌, ◌==◌, ◌+◌, ◌*◌, ◌<�
 ghost use Rattle.std.specs.List.{All, list_any};
 ghost use Rattle.std.specs.HashMap.{get, get_by_text};
 ghost use Rattle.std.specs.HashSet.{contains};
-ghost use Rattle.rip_plan.specs.Network.{cost_at, each_below, is_item, is_of, is_on, numbers_where, pair_eq, same_item};
+ghost use Rattle.rip_plan.specs.Network.{cost_at, each_below, has_gateway, is_item, is_of, is_on, numbers_where, pair_eq, same_item};
 ghost use Rattle.rip_plan.specs.Addresses.{holder_at};
 ghost use Rattle.rip_plan.specs.Names.{number_of_name};
 ghost use Rattle.rip_plan.specs.Seats.{is_kept};
@@ -92,6 +92,26 @@ pub(crate) fn all_of(
     for i in 0..interfaces.len() {
         let interface = interfaces[i];
         all[interface.router].push(i)?;
+    }
+    Ok(all)
+}
+
+/// The numbers of the places of each prefix that have a gateway, ascending.
+pub(crate) fn gateway_places_of(
+    alloc: Global,
+    places: &[Place],
+    prefixes: usize,
+) -> Result<Vec<Vec<usize>>, AllocError>
+    requires { All (λ q. q.prefix < prefixes) places.now }
+    ensures { IfOk result (λ v. map (λ w. w.items) v.items
+        ≡ each_below prefixes (λ k. numbers_where (has_gateway k) 0 places.now)) }
+{
+    let mut all = empty_lists(alloc, prefixes)?;
+    for i in 0..places.len() {
+        let place = places[i];
+        if place.seat.gateway().is_some() {
+            all[place.prefix].push(i)?;
+        }
     }
     Ok(all)
 }

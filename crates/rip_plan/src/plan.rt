@@ -12,7 +12,7 @@ ghost use Rattle.rip_plan.specs.Names.{number_of_name};
 ghost use Rattle.rip_plan.specs.Network.{addresses_of, direct_at, first_carrying, found_at, is_of, is_on, network_in, network_of_sketch, number_of_prefix, numbers_where, own_seat};
 ghost use Rattle.rip_plan.specs.Draft.{sketch};
 ghost use Rattle.rip_plan.specs.Seats.{gateway_of};
-ghost use Rattle.rip_plan.specs.Relations.{Carries, Exchanges, HasAddress, HasCost, HasList, HasTwoInterfaces, IsAt, IsAttached, IsConnected, IsDirect, IsGateway, IsInterface, IsKept, IsLawful, IsLeaf, IsLinkName, IsListed, IsOn, IsPlace, IsPrefix, IsRouterName, Poisons};
+ghost use Rattle.rip_plan.specs.Relations.{Carries, Exchanges, HasAddress, HasCost, HasList, HasTwoInterfaces, IsAt, IsAttached, IsConnected, IsDirect, IsGateway, IsGatewayAt, IsInterface, IsKept, IsLawful, IsLeaf, IsLinkName, IsListed, IsOn, IsPlace, IsPrefix, IsRouterName, Poisons};
 
 use crate::addresses::all_addresses;
 use crate::draft::Draft;
@@ -41,13 +41,14 @@ pub struct Plan {
     also: Vec<Vec<Address>>,
     prefixes: Vec<Prefix>,
     places: Vec<Place>,
-    // Look-ups, so that no answer walks over the parts: the interfaces of each link and router,
-    // links and routers by name, interfaces by link and address, prefixes, in rows one after
-    // another whether each link has each prefix, at which metric each router has it, and at which
-    // place as its own, and whether any router keeps a prefix; what stands in the lists of links, by
-    // link and prefix, and whether any link has a list.
+    // Look-ups, so that no answer walks over the parts: the interfaces of each link and router, the
+    // places of each prefix that have a gateway, links and routers by name, interfaces by link and
+    // address, prefixes, in rows one after another whether each link has each prefix, at which
+    // metric each router has it, and at which place as its own, and whether any router keeps a
+    // prefix; what stands in the lists of links, by link and prefix, and whether any link has a list.
     on_link: Vec<Vec<usize>>,
     of_router: Vec<Vec<usize>>,
+    gateway_places: Vec<Vec<usize>>,
     names: HashMap<String, usize>,
     router_names: HashMap<String, usize>,
     addresses: HashMap<(usize, u32), usize>,
@@ -82,6 +83,7 @@ fn plan_of(alloc: Global, draft: Draft) -> Result<Plan, AllocError>
     let on_link = index::all_on(alloc, interfaces.as_slice(), draft.links.len())?;
     let routers = draft.routers.len();
     let of_router = index::all_of(alloc, interfaces.as_slice(), routers)?;
+    let gateway_places = index::gateway_places_of(alloc, places.as_slice(), prefixes.len())?;
     let held = all_addresses(alloc, interfaces.as_slice(), draft.also.as_slice())?;
     let addresses = index::numbers_of_addresses(alloc, held.as_slice())?;
     let carriers = index::carriers_of(alloc, places.as_slice(), draft.links.len(), prefixes.len())?;
@@ -109,6 +111,7 @@ fn plan_of(alloc: Global, draft: Draft) -> Result<Plan, AllocError>
         places,
         on_link,
         of_router,
+        gateway_places,
         names: draft.numbers,
         router_names,
         addresses,
@@ -312,22 +315,49 @@ impl Plan {
         self.of_router[router].as_slice()
     }
 
-    /// The interface of a router on a link, if it has one.
-    pub fn interface_on(&self, router: usize, link: usize) -> Option<Interface>
+    /// The numbers of the places at which a router has a gateway for a prefix, ascending; none where
+    /// the plan has no prefix of this number.
+    pub fn gateway_places(&self, prefix: usize) -> &[usize]
+        ensures exact { (k : ℕ) →
+            Contains result.now k ↔ ((r a : ℕ) × IsGatewayAt self.now k prefix r a) }
+        ensures ascending { IsStrictlyIncreasing result.now }
+    {
+        self.lawful();
+        match self.gateway_places.get(prefix) {
+            Some(numbers) => numbers.as_slice(),
+            None => &[],
+        }
+    }
+
+    /// The number of the interface of a router on a link, if it has one.
+    pub fn number_on(&self, router: usize, link: usize) -> Option<usize>
         requires { router < length self.now.routers }
-        ensures some { IfSome result (λ own. (own.router ≡ router) × (own.link ≡ link)
-            × HasCost self.now own.router own.link own.cost) }
-        ensures none { IfNone result (IsOn self.now router link → ⊥) }
+        ensures { (i : ℕ) → (result ≡ Some i) ↔ ((c : ℕ) × IsInterface self.now i router link c) }
     {
         self.lawful();
         let numbers = self.of_router(router);
         for j in 0..numbers.len() {
             let own = self.interface(numbers[j]);
             if own.link == link {
-                return Some(own);
+                return Some(numbers[j]);
             }
         }
         None
+    }
+
+    /// The interface of a router on a link, if it has one.
+    pub fn interface_on(&self, router: usize, link: usize) -> Option<Interface>
+        requires { router < length self.now.routers }
+        ensures some { IfSome result (λ own. (own.router ≡ router) × (own.link ≡ link)
+            × HasCost self.now own.router own.link own.cost) }
+        ensures none { IfNone result (IsOn self.now router link → ⊥) }
+        ensures is { IfSome result (λ own.
+            (i : ℕ) × (slice_get self.now.interfaces i ≡ Some own)) }
+    {
+        match self.number_on(router, link) {
+            Some(number) => Some(self.interface(number)),
+            None => None,
+        }
     }
 
     /// Whether a router is on a link.
@@ -342,7 +372,7 @@ impl Plan {
     }
 
     /// The number of the interface that has an address on a link, by the look-ups.
-    fn holder(&self, link: usize, address: Address) -> Option<usize>
+    fn number_with(&self, link: usize, address: Address) -> Option<usize>
         ensures { result ≡ holder_at link address (addresses_of self.now) }
     {
         match self.addresses.get(&(link, address.get())) {
@@ -351,13 +381,22 @@ impl Plan {
         }
     }
 
+    /// The number of the interface that has an address on a link, its own or a further one, if there
+    /// is one.
+    pub fn holder(&self, link: usize, address: Address) -> Option<usize>
+        ensures { (i : ℕ) → (result ≡ Some i) ↔ HasAddress self.now i link address }
+    {
+        self.lawful();
+        self.number_with(link, address)
+    }
+
     /// The number of the interface on the link of this name with this address, by the look-ups.
     fn number_at(&self, link_name: &str, address: Address) -> Option<usize>
         ensures { result ≡ found_at self.now link_name.now address }
     {
         match self.names.get(link_name) {
             None => None,
-            Some(link) => self.holder(*link, address),
+            Some(link) => self.number_with(*link, address),
         }
     }
 
@@ -369,7 +408,7 @@ impl Plan {
     {
         self.lawful();
         let link = self.interface(i).link;
-        match self.holder(link, address) {
+        match self.number_with(link, address) {
             Some(number) => number == i,
             None => false,
         }

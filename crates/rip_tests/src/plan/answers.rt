@@ -16,7 +16,11 @@ fn address(rt: &impl Abort, text: &str) -> Address {
 /// A plan of one router.
 const DAEMONS: &str = "version = 1
 poison = false
-link = [{ name = \"core\", prefixes = [\"10.1.0.0/16\"] }, { name = \"k\", prefixes = [] }]
+link = [
+  { name = \"core\", prefixes = [\"10.1.0.0/16\"] },
+  { name = \"k\", prefixes = [] },
+  { name = \"far\", prefixes = [\"10.1.0.0/16\"] },
+]
 
 [[router]]
 name = \"r1\"
@@ -33,14 +37,14 @@ own = [
 
 /// Expects the names of the plan above, and the interfaces of its router.
 fn expect_names(rt: &impl Abort, plan: &Plan) {
-    assert!(rt; plan.routers() == 1 && plan.links() == 2);
+    assert!(rt; plan.routers() == 1 && plan.links() == 3);
     assert!(rt; plan.router_name(0) == "r1" && plan.link_name(1) == "k");
     assert!(rt; plan.of_router(0).len() == 2 && plan.of_router(0).get(1) == Some(&1));
 }
 
 /// Expects costs of the plan above, and where its first prefix is.
 fn expect_costs(rt: &impl Abort, plan: &Plan) {
-    assert!(rt; plan.interfaces() == 2 && plan.places() == 4);
+    assert!(rt; plan.interfaces() == 2 && plan.places() == 5);
     let core = plan.interface(0);
     assert!(rt; core.cost == 5 && core.direct == 2 && plan.interface(1).direct == 3);
     assert!(rt; !core.poison && plan.interface(1).poison);
@@ -54,6 +58,7 @@ fn expect_further_addresses(rt: &impl Abort, plan: &Plan) {
     let further = address(rt, "10.20.8.1");
     assert!(rt; plan.also(0).len() == 2 && plan.find("core", further) == Some(0));
     assert!(rt; plan.has_address(0, further) && !plan.has_address(1, further));
+    assert!(rt; plan.holder(0, further) == Some(0) && plan.holder(1, further) == None);
 }
 
 /// Expects which prefixes of the plan above are kept, attached, or reached over a gateway.
@@ -62,6 +67,8 @@ fn expect_own(rt: &impl Abort, plan: &Plan) {
     assert!(rt; plan.attached_link(0, 1) == None && plan.attached_link(0, 2) == Some(0));
     let all = Prefix::parse("0.0.0.0/0").expect(rt, "a prefix");
     assert!(rt; plan.gateway(0, all) == Some(address(rt, "10.1.0.254")));
+    assert!(rt; plan.gateway_places(1).get(0) == Some(&2));
+    assert!(rt; plan.gateway_places(2).is_empty() && plan.gateway_places(4).is_empty());
 }
 
 #[test]
@@ -79,11 +86,11 @@ fn expect_named(rt: &impl Abort, plan: &Plan) {
     assert!(rt; plan.link_named("c") == Some(2) && plan.link_named("r1") == None);
 }
 
-/// Expects the first router on links a and c, and not on link b.
+/// Expects the first router on links a and c and not on link b, and the last one on link c.
 fn expect_links(rt: &impl Abort, plan: &Plan) {
     assert!(rt; plan.routers() == 3);
     assert!(rt; plan.is_on(0, 2) && !plan.is_on(0, 1));
-    assert!(rt; plan.interface_on(0, 1) == None);
+    assert!(rt; plan.number_on(2, 2) == Some(5) && plan.interface_on(0, 1) == None);
     match plan.interface_on(0, 2) {
         Some(own) => assert!(rt; own.address == address(rt, "10.3.0.1")),
         None => panic!(rt; "no interface"),

@@ -6,7 +6,7 @@ use Rattle.rip_plan.specs.declared.draft.DraftPlace.{DraftPlace}
 use Rattle.rip_plan.specs.declared.parts.Interface.{Interface}
 use Rattle.rip_plan.specs.declared.parts.Place.{Place}
 use Rattle.rip_plan.specs.Draft.{sketch}
-use Rattle.rip_plan.specs.Network.{Network, each_below, is_of, is_on, network_of_sketch, numbered, numbers_where}
+use Rattle.rip_plan.specs.Network.{Network, each_below, has_gateway, is_of, is_on, network_of_sketch, numbered, numbers_where}
 use Rattle.rip_plan.proofs.BelowLemmas.{length-each_below}
 use Rattle.rip_plan.proofs.NumberingLemmas.{IsNumbered, numbers}
 use Rattle.rip_plan.proofs.MatchingLemmas.{matched_length}
@@ -34,12 +34,15 @@ all_on-requires c = grind (arith, length-map, interfaces_links (network_of_sketc
 pub all_of-requires : goal.all_of-requires
 all_of-requires c = grind (arith, length-map, interfaces_routers (network_of_sketch (sketch c.args.draft)) c.requires)
 
+pub gateway_places_of-requires : goal.gateway_places_of-requires
+gateway_places_of-requires c = grind (arith, length-map, places_prefixes (network_of_sketch (sketch c.args.draft)) c.requires)
+
 pub all_addresses-requires : goal.all_addresses-requires
 all_addresses-requires c = grind (arith, length-map)
 
 pub carriers_of-requires-clause-few_prefixes : goal.carriers_of-requires-clause-few_prefixes
 carriers_of-requires-clause-few_prefixes c =
-    few c.in_ok-prefixes.prefixes.items c.as_slice-2.result.now c.args.draft.places.items c.len-3.result c.in_ok-prefixes.ensures.few c.as_slice-2.ensures.value c.requires.few_places (omega arith)
+    few c.in_ok-prefixes.prefixes.items c.as_slice-2.result.now c.args.draft.places.items c.len-4.result c.in_ok-prefixes.ensures.few c.as_slice-2.ensures.value c.requires.few_places (omega arith)
 
 pub carriers_of-requires-clause-prefixes : goal.carriers_of-requires-clause-prefixes
 carriers_of-requires-clause-prefixes c = grind (arith, length-map, places_prefixes (network_of_sketch (sketch c.args.draft)) c.requires)
@@ -49,7 +52,7 @@ carriers_of-requires-clause-seats c = grind (arith, length-map, places_links (ne
 
 pub costs_of-requires-clause-few_prefixes : goal.costs_of-requires-clause-few_prefixes
 costs_of-requires-clause-few_prefixes c =
-    few c.in_ok-prefixes.prefixes.items c.as_slice-2.result.now c.args.draft.places.items c.len-4.result c.in_ok-prefixes.ensures.few c.as_slice-2.ensures.value c.requires.few_places (omega arith)
+    few c.in_ok-prefixes.prefixes.items c.as_slice-2.result.now c.args.draft.places.items c.len-5.result c.in_ok-prefixes.ensures.few c.as_slice-2.ensures.value c.requires.few_places (omega arith)
 
 pub costs_of-requires-clause-routers : goal.costs_of-requires-clause-routers
 costs_of-requires-clause-routers c = grind (arith, length-map, interfaces_routers (network_of_sketch (sketch c.args.draft)) c.requires)
@@ -57,9 +60,9 @@ costs_of-requires-clause-routers c = grind (arith, length-map, interfaces_router
 pub costs_of-requires-clause-lists : goal.costs_of-requires-clause-lists
 costs_of-requires-clause-lists c =
     let items = λ (w : Vec ℕ Global). w.items in
-    let same : c.as_slice-3.result.now ≡ c.as_slice-9.result.now = c.as_slice-3.ensures.value ∙ sym c.as_slice-9.ensures.value in
-    lists_are (map items c.as_slice-10.result.now) c.len.result (λ l. numbers_where (is_on l) 0 c.as_slice-9.result.now)
-    (ap (map items) c.as_slice-10.ensures.value ∙ c.in_ok-on_link.ensures ∙ ap (λ is. each_below c.len.result (λ l. numbers_where (is_on l) 0 is)) same)
+    let same : c.as_slice-3.result.now ≡ c.as_slice-10.result.now = c.as_slice-3.ensures.value ∙ sym c.as_slice-10.ensures.value in
+    lists_are (map items c.as_slice-11.result.now) c.len.result (λ l. numbers_where (is_on l) 0 c.as_slice-10.result.now)
+    (ap (map items) c.as_slice-11.ensures.value ∙ c.in_ok-on_link.ensures ∙ ap (λ is. each_below c.len.result (λ l. numbers_where (is_on l) 0 is)) same)
 
 pub costs_of-requires-clause-prefixes : goal.costs_of-requires-clause-prefixes
 costs_of-requires-clause-prefixes c = grind (arith, length-map, places_prefixes (network_of_sketch (sketch c.args.draft)) c.requires)
@@ -74,7 +77,7 @@ costs_of-requires-clause-owners c = grind (arith, length-map, places_owners (net
 
 pub owners_of-requires-clause-few_prefixes : goal.owners_of-requires-clause-few_prefixes
 owners_of-requires-clause-few_prefixes c =
-    few c.in_ok-prefixes.prefixes.items c.as_slice-2.result.now c.args.draft.places.items c.len-5.result c.in_ok-prefixes.ensures.few c.as_slice-2.ensures.value c.requires.few_places (omega arith)
+    few c.in_ok-prefixes.prefixes.items c.as_slice-2.result.now c.args.draft.places.items c.len-6.result c.in_ok-prefixes.ensures.few c.as_slice-2.ensures.value c.requires.few_places (omega arith)
 
 pub owners_of-requires-clause-few_places : goal.owners_of-requires-clause-few_places
 owners_of-requires-clause-few_places c = grind arith
@@ -93,6 +96,7 @@ invariant_of-result c =
     let places : c.in_ok-prefixes.places.items ≡ n.places = places_are c.in_ok-prefixes.ensures.parts c.as_slice-2.ensures.value in
     let links : c.len.result ≡ length c.args.draft.links.items = omega arith in
     let routers : c.len-routers.result ≡ length c.args.draft.routers.items = omega (arith, c.len-routers.ensures) in
+    let count : c.len-2.result ≡ length c.in_ok-prefixes.prefixes.items = omega arith in
     record {
       lawful = rw (interfaces, blocks, places) c.requires;
       on_link = c.in_ok-on_link.ensures
@@ -101,6 +105,9 @@ invariant_of-result c =
       of_router = c.in_ok-of_router.ensures
           ∙ ap (λ m. each_below m (λ r. numbers_where (is_of r) 0 c.as_slice-4.result.now)) routers
           ∙ ap (λ is. each_below (length c.args.draft.routers.items) (λ r. numbers_where (is_of r) 0 is)) c.as_slice-4.ensures.value;
+      gateway_places = c.in_ok-gateway_places.ensures
+          ∙ ap (λ m. each_below m (λ k. numbers_where (has_gateway k) 0 c.as_slice-5.result.now)) count
+          ∙ ap (λ qs. each_below (length c.in_ok-prefixes.prefixes.items) (λ k. numbers_where (has_gateway k) 0 qs)) c.as_slice-5.ensures.value;
       names = λ bs. c.args.draft.numbered bs;
       router_names = λ name. grind (arith, c.in_ok-router_names.ensures name);
       numbers = λ p. c.in_ok-prefixes.ensures.numbers p;

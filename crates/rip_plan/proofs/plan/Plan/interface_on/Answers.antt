@@ -1,49 +1,22 @@
-use Rattle.std.proofs.Common.{◌≡◌, ◌⊎◌, ◌<◌, ◌+◌, ℕ, List, ap, arith, get_or, inl, inr, length, sym, ◌∙◌}
-use Rattle.std.specs.Prelude.{slice_get}
-use Rattle.std.specs.List.{Contains}
-use Rattle.std.proofs.lemmas.Option.{same_Some, slice_get_within, slice_get-get_or}
+use Rattle.std.proofs.Common.{◌≡◌, refl, sym, ◌∙◌, ap}
+use Rattle.std.proofs.lemmas.Option.{same_Some, slice_get_within}
 use Rattle.rip_plan.specs.declared.parts.Interface.{Interface}
-use Rattle.rip_plan.specs.Network.{Network}
-use Rattle.rip_plan.specs.Relations.{IsInterface}
-use Rattle.rip_plan.proofs.BelowLemmas.{at_contains, contains_at}
 use Rattle.rip_plan.proofs.plan.Plan.interface_on.Goals as goal
 
--- a number of the list is an interface's of the router
-of_it : (n : Network) (r : ℕ) (numbers : List ℕ) (j : ℕ) → ((i : ℕ) → Contains numbers i → (l c : ℕ) × IsInterface n i r l c) → j < length numbers → (l c : ℕ) × IsInterface n (get_or numbers j 0) r l c
-of_it n r numbers j exact lt = exact (get_or numbers j 0) (contains_at numbers j _ (slice_get-get_or numbers j 0 lt))
-
-below_or_at : (k j : ℕ) → k < j + 1 → (k < j) ⊎ (k ≡ j)
-below_or_at k j h = grind arith
-
-pub interface-own-requires : goal.interface-own-requires
-interface-own-requires c =
-    let (l, cost, is) = of_it c.args.self.now c.args.router c.of_router-numbers.result.now c.loop-j.j (λ i. (c.of_router-numbers.ensures.exact i).0) c.loop-j-test.true in
+pub interface-requires : goal.interface-requires
+interface-requires c =
+    let (cost, is) = (c.in-Some.ensures c.in-Some.number).0 refl in
     slice_get_within c.args.self.now.interfaces _ is.interface is.listed
 
-pub returns-then-own-link : goal.returns-then-own-link
-returns-then-own-link c =
-    let numbers = c.of_router-numbers.result.now in
-    let (l, cost, is) = of_it c.args.self.now c.args.router numbers c.loop-j.j (λ i. (c.of_router-numbers.ensures.exact i).0) c.loop-j-test.true in
-    let same : c.interface-own.result ≡ is.interface = same_Some _ _ (sym c.interface-own.ensures.exact ∙ is.listed) in
+pub returns-in-Some : goal.returns-in-Some
+returns-in-Some c =
+    let (cost, is) = (c.in-Some.ensures c.in-Some.number).0 refl in
+    let same : c.interface.result ≡ is.interface = same_Some _ _ (sym c.interface.ensures.exact ∙ is.listed) in
     record {
-      some = (ap (λ (x : Interface). x.router) same ∙ is.router, c.if-own-link.true, (get_or numbers c.loop-j.j 0, c.interface-own.ensures.is));
+      some = (ap (λ (x : Interface). x.router) same ∙ is.router, ap (λ (x : Interface). x.link) same ∙ is.link, (c.in-Some.number, c.interface.ensures.is));
       none = tt;
+      is = (c.in-Some.number, c.interface.ensures.exact);
     }
 
-pub loop-j-preserved : goal.loop-j-preserved
-loop-j-preserved c k i cost below at is =
-    elim (below_or_at k c.loop-j.j below) [
-      | inl before ↦ c.loop-j.invariant k i cost before at is
-      | inr here ↦
-          let number : get_or c.of_router-numbers.result.now c.loop-j.j 0 ≡ i = same_Some _ _ (sym (slice_get-get_or c.of_router-numbers.result.now c.loop-j.j 0 c.loop-j-test.true) ∙ rw here at at) in
-          let same : c.interface-own.result ≡ is.interface = same_Some _ _ (sym c.interface-own.ensures.exact ∙ ap (slice_get c.args.self.now.interfaces) number ∙ is.listed) in
-          c.if-own-link.false (ap (λ (x : Interface). x.link) same ∙ is.link)
-    ]
-
-pub returns : goal.returns
-returns c = record { some = tt; none = λ (cost, (i, is)). none cost i is }
-  where
-    none : (cost i : ℕ) → IsInterface c.args.self.now i c.args.router c.args.link cost → ⊥
-    none cost i is =
-        let (k, at) = at_contains c.of_router-numbers.result.now i ((c.of_router-numbers.ensures.exact i).1 (c.args.link, cost, is)) in
-        c.loop-j.invariant k i cost (omega (arith, slice_get_within c.of_router-numbers.result.now k i at)) at is
+pub returns-in-None : goal.returns-in-None
+returns-in-None c = record { some = tt; is = tt; none = λ (cost, (i, is)). cc ((c.in-None.ensures i).1 (cost, is)) }
