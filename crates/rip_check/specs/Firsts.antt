@@ -1,5 +1,5 @@
 -- Which routes can be read, why others can't, and which place is the first.
-use Rattle.std.specs.Prelude.{◌≡◌, ◌≢◌, ℕ, ◌<◌, ◌⊎◌, Option, None, Some, IsTrue, length}
+use Rattle.std.specs.Prelude.{◌≡◌, ◌≢◌, ℕ, ◌<◌, ◌≤◌, ◌⊎◌, Option, None, Some, IsTrue, length}
 use Rattle.rip_plan.specs.Network.{Network}
 use Rattle.rip_plan.specs.Relations.{Exchanges, IsAttached, IsInterface, IsLeaf}
 use Rattle.rip_table.specs.State.{State}
@@ -44,6 +44,11 @@ abbrev pub IsFirstOf : ℕ → (ℕ → Type 0) → Option ℕ → Type 0
 IsFirstOf bound Fine None = (s : ℕ) → s < bound → Fine s
 IsFirstOf bound Fine (Some r) =
     (r < bound) × ((s : ℕ) → s < r → Fine s) × (Fine r → ⊥)
+
+-- the least number of this kind, if there is one
+abbrev pub IsLeastOf : (ℕ → Type 0) → Option ℕ → Type 0
+IsLeastOf Is None = (j : ℕ) → Is j → ⊥
+IsLeastOf Is (Some j) = Is j × ((i : ℕ) → Is i → j ≤ i)
 
 -- exactly one route fits what router r shows of prefix p; of a router with one interface or none, at
 -- least one

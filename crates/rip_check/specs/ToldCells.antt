@@ -4,7 +4,7 @@ use Rattle.std.specs.declared.alloc.Global.{Global}
 use Rattle.std.specs.Prelude.{◌≡◌, ◌≢◌, ℕ, zero, suc, ◌<◌, ◌⊎◌, Bool, true, false, Decides, Option, None, Some, List, option_and_then, length, map, slice_get, slice_index, slice_index_or}
 use Rattle.rip_wire.specs.Prefix.{Block}
 use Rattle.rip_plan.specs.Network.{Network, number_of_prefix}
-use Rattle.rip_plan.specs.Relations.{Exchanges, IsAttached, IsInterface}
+use Rattle.rip_plan.specs.Relations.{Exchanges, HasAddress, IsAttached, IsGatewayAt, IsInterface}
 use Rattle.rip_table.specs.State.{State}
 use Rattle.rip_routes.specs.OwnTables.{OwnTables, route_at}
 use Rattle.rip_check.specs.Networks.{block_at, network_at}
@@ -60,13 +60,27 @@ AreMarks Is marks = (l : ℕ) → l < length marks → Decides (slice_index_or m
 abbrev pub IsHereOn : Network → OwnTables → ℕ → ℕ → ℕ → Type 0
 IsHereOn n t r p l = IsAttached n r p l × ((route_at t r p).here ≡ true)
 
--- the interface of this number is the first on link l of another router than r that has address a
--- for prefix p
-pub record IsFirstAcross (n : Network) (r l p a j : ℕ) : Type 0 where
+-- interface j is another router's than r on link l, and has address a for prefix p
+abbrev pub HasHopAcross : Network → ℕ → ℕ → ℕ → ℕ → ℕ → Type 0
+HasHopAcross n r l p a j = (s : ℕ) × (s ≢ r) × HasHopAt n j s l p a
+
+-- interface j is another router's than r on link l, and has address a itself
+pub record HasAddressAcross (n : Network) (r l a j : ℕ) : Type 0 where
   pub router : ℕ
+  pub cost : ℕ
   pub other : router ≢ r
-  pub has : HasHopAt n j router l p a
-  pub before : (i s : ℕ) → i < j → HasHopAt n i s l p a → s ≡ r
+  pub its : IsInterface n j router l cost
+  pub has : HasAddress n j l a
+
+-- interface j is another router's than r on link l, and that router has gateway a for its own prefix
+-- at place k
+pub record HasGatewayAcross (n : Network) (r l a k j : ℕ) : Type 0 where
+  pub router : ℕ
+  pub cost : ℕ
+  pub prefix : ℕ
+  pub other : router ≢ r
+  pub its : IsInterface n j router l cost
+  pub has : IsGatewayAt n k prefix router a
 
 -- the rows of cells
 abbrev pub rows_of : List (Vec ℕ Global) → List (List ℕ)

@@ -1,11 +1,12 @@
 //! The verdict on the routers' own tables.
 
-ghost use Rattle.std.specs.Prelude.{◌≡◌, ◌↔◌, ℕ, ◌+◌, ◌≤◌, ◌<◌, Decides, IfNone, Contains, IfSome, None, Some, length, true};
+ghost use Rattle.std.specs.Prelude.{◌≡◌, ◌↔◌, ℕ, ◌+◌, ◌≤◌, ◌<◌, Decides, IfNone, Contains, IfSome, None, Some, length, min, true, unwrap_or};
 ghost use Rattle.rip_plan.specs.Relations.{HasCost, IsKept};
 ghost use Rattle.rip_table.specs.State.{Fits};
 ghost use Rattle.rip_routes.specs.OwnTables.{route_at};
 ghost use Rattle.rip_check.specs.Cases.{At, ByPlan, network_of, plan_of, state_of, told_in};
 ghost use Rattle.rip_check.specs.Firsts.{IsFirstAt, IsFirstOf};
+ghost use Rattle.rip_check.specs.Metrics.{metric_at};
 ghost use Rattle.rip_check.specs.OwnSettled.{AreRightTables, EachOwnHolds, IsHopGiven, OwnHolds};
 ghost use Rattle.rip_check.specs.OwnTells.{HasHop, IsToldBy};
 ghost use Rattle.rip_check.specs.OwnVerdicts.{IsFirstHad, IsFirstWrongHop, IsNextUnlisted, IsOwnFailing, IsOwnSound, IsOwnVerdict, IsWrong, IsWrongHop};
@@ -20,7 +21,7 @@ use crate::lookup::metric_of;
 use crate::offers::least_choice;
 use crate::own_verdict::{OwnPlace, OwnVerdict, Wrong};
 use crate::places::{is_direct, is_offered};
-use crate::told_table::{first_across, has_hop_at};
+use crate::told_table::{first_across, holder_across, owner_across};
 use rip_plan::{Interface, MOST_LINKS, Plan};
 use rip_routes::{NextHop, RouteTables};
 use rip_table::Table;
@@ -34,7 +35,6 @@ fn first_had(plan: &Plan, router: usize, address: Address, prefix: usize) -> Opt
         IsFirstHad plan.now router prefix address had.0 had.1) }
     ensures none { IfNone result ((l s : ℕ) → HasHop plan.now router l s prefix address → ⊥) }
 {
-    plan.lawful();
     let numbers = plan.of_router(router);
     for i in numbers {
         let own = plan.interface(*i);
@@ -67,6 +67,24 @@ fn wrong_hop(plan: &Plan, router: usize, hop: &NextHop, prefix: usize) -> Wrong
     }
 }
 
+/// Whether an interface across, if there is one, offers a metric over an interface of this cost.
+fn is_offered_from<T: Table>(
+    case: &Case<'_, T>,
+    cost: u8,
+    across: Option<usize>,
+    metric: u32,
+) -> bool
+    requires { IfSome across (λ j. j < length (plan_of case.now).interfaces) }
+    ensures { Decides result ((j : ℕ) × (across ≡ Some j)
+        × (metric ≡ min 16 (cost + unwrap_or
+        (metric_at (told_in case.now) j case.now.prefix) 16))) }
+{
+    match across {
+        Some(j) => (u32::from(cost) + seen_at(case, j)).min(16) == metric,
+        None => false,
+    }
+}
+
 /// Whether a neighbour on the link of an interface has an address and offers a metric.
 fn is_offered_across<T: Table>(
     case: &Case<'_, T>,
@@ -82,14 +100,14 @@ fn is_offered_across<T: Table>(
         metric) }
 {
     case.lawful();
-    let numbers = case.plan.on_link(own.link);
-    for j in numbers {
-        let across = case.plan.interface(*j);
-        let offer = (u32::from(own.cost) + seen_at(case, *j)).min(16);
-        if offer == metric
-            && across.router != own.router
-            && has_hop_at(case.plan, *j, address, case.prefix)
-        {
+    let holder = holder_across(case.plan, &own, address);
+    if is_offered_from(case, own.cost, holder, metric) {
+        return true;
+    }
+    let places = case.plan.gateway_places(case.prefix);
+    for k in places {
+        let owner = owner_across(case.plan, &own, address, *k);
+        if is_offered_from(case, own.cost, owner, metric) {
             return true;
         }
     }

@@ -1,70 +1,86 @@
 //! What routers tell their neighbours, by their own tables.
 
-ghost use Rattle.std.specs.Prelude.{◌≡◌, ◌≢◌, ℕ, ◌<◌, ◌≤◌, ◌⊎◌, ◌↔◌, ◌+◌, Decides, IfNone, IfOk, IfSome, List, None, Some, if◌then◌else◌, length, slice_get, slice_index, slice_index_or, false, true};
-ghost use Rattle.rip_plan.specs.Relations.{Exchanges, HasCost, IsGateway, IsInterface};
+ghost use Rattle.std.specs.Prelude.{◌≡◌, ◌≢◌, ℕ, ◌<◌, ◌≤◌, ◌⊎◌, ◌↔◌, ◌+◌, Decides, IfOk, List, None, Some, if◌then◌else◌, length, slice_get, slice_index, slice_index_or, false, true};
+ghost use Rattle.rip_plan.specs.Relations.{Exchanges, HasCost, IsInterface};
 ghost use Rattle.rip_plan.specs.PrefixNetworks.{network_for};
 ghost use Rattle.rip_table.specs.State.{Fits, IsState};
 ghost use Rattle.rip_routes.specs.OwnTables.{FitsOwn};
+ghost use Rattle.rip_check.specs.Firsts.{IsLeastOf};
 ghost use Rattle.rip_check.specs.Networks.{network_at};
-ghost use Rattle.rip_check.specs.OwnTells.{HasHopAt, IsHadOn, IsOver, IsToldBy, SendsOver};
-ghost use Rattle.rip_check.specs.ToldCells.{AreMarks, IsFirstAcross, IsHereOn, IsRowBelow, IsToldRow, rows_of, told_state};
+ghost use Rattle.rip_check.specs.OwnTells.{IsHadOn, IsOver, IsToldBy, SendsOver};
+ghost use Rattle.rip_check.specs.ToldCells.{AreMarks, HasAddressAcross, HasGatewayAcross, HasHopAcross, IsHereOn, IsRowBelow, IsToldRow, rows_of, told_state};
 
 use crate::lookup::metric_of;
-use rip_plan::{Interface, MOST_LINKS, Plan};
+use rip_plan::{Interface, MOST_LINKS, Plan, Seat};
 use rip_routes::{NextHop, RouteTables};
 use rip_table::Table;
 use rip_wire::{Address, Metric, Prefix};
 use std::alloc::{AllocError, Global};
 
-/// The gateway that a router tells as next hop of its own prefix, by its number.
-fn gateway_at(plan: &Plan, router: usize, prefix: usize) -> Option<Address>
-    ensures { (a : ℕ) → (result ≡ Some a) ↔ IsGateway plan.now router prefix a }
+/// The number of another router's interface on the link of `own` that has an address itself, if
+/// there is one.
+pub(crate) fn holder_across(plan: &Plan, own: &Interface, address: Address) -> Option<usize>
+    ensures { (j : ℕ) → (result ≡ Some j)
+        ↔ HasAddressAcross plan.now own.now.router own.now.link address j }
+{
+    let Some(across) = plan.holder(own.link, address) else {
+        return None;
+    };
+    if plan.interface(across).router == own.router {
+        return None;
+    }
+    Some(across)
+}
+
+/// The number of another router's interface on the link of `own`, where that router has an address
+/// as gateway for its own prefix at a place.
+pub(crate) fn owner_across(
+    plan: &Plan,
+    own: &Interface,
+    address: Address,
+    place: usize,
+) -> Option<usize>
+    requires { place < length plan.now.places }
+    ensures { (j : ℕ) → (result ≡ Some j)
+        ↔ HasGatewayAcross plan.now own.now.router own.now.link address place j }
 {
     plan.lawful();
-    if prefix < plan.prefixes() {
-        plan.gateway(router, plan.prefix(prefix))
-    } else {
-        None
+    let seat = plan.place(place).seat;
+    match seat {
+        Seat::Own(its) if its.via == Some(address) && its.router != own.router => {
+            plan.number_on(its.router, own.link)
+        }
+        _ => None,
     }
 }
 
-/// Whether an interface has an address for a prefix: as its own, or as the gateway that its router
-/// tells as next hop of its own prefix.
-pub(crate) fn has_hop_at(plan: &Plan, across: usize, address: Address, prefix: usize) -> bool
-    requires { across < length plan.now.interfaces }
-    ensures { (s l c : ℕ) → IsInterface plan.now across s l c →
-        Decides result (HasHopAt plan.now across s l prefix address) }
+/// The lesser of two numbers, or the one that there is, if there is one.
+fn lesser(one: Option<usize>, other: Option<usize>) -> Option<usize>
+    ensures { IsLeastOf (λ j. (one ≡ Some j) ⊎ (other ≡ Some j)) result }
 {
-    if plan.has_address(across, address) {
-        return true;
-    }
-    match gateway_at(plan, plan.interface(across).router, prefix) {
-        Some(gateway) => gateway == address,
-        None => false,
+    match (one, other) {
+        (Some(i), Some(j)) => Some(i.min(j)),
+        (Some(i), None) => Some(i),
+        (None, _) => other,
     }
 }
 
-/// The first interface on the link of an interface, of another router, that has an address for a
-/// prefix.
+/// The number of the first of other routers' interfaces on the link of `own` that has an address for
+/// a prefix, if there is one.
 pub(crate) fn first_across(
     plan: &Plan,
     own: Interface,
     address: Address,
     prefix: usize,
 ) -> Option<usize>
-    requires { own.link < length plan.now.links }
-    ensures some { IfSome result (IsFirstAcross plan.now own.router own.link prefix address) }
-    ensures none { IfNone result ((j s : ℕ) →
-        HasHopAt plan.now j s own.link prefix address → s ≡ own.router) }
+    ensures { IsLeastOf (HasHopAcross plan.now own.router own.link prefix address) result }
 {
-    let numbers = plan.on_link(own.link);
-    for j in numbers {
-        let across = plan.interface(*j);
-        if across.router != own.router && has_hop_at(plan, *j, address, prefix) {
-            return Some(*j);
-        }
+    let mut first = holder_across(plan, &own, address);
+    let places = plan.gateway_places(prefix);
+    for k in places {
+        first = lesser(first, owner_across(plan, &own, address, *k));
     }
-    None
+    first
 }
 
 /// Whether a neighbour on the link of an interface has an address for a prefix.
@@ -72,7 +88,6 @@ fn is_had_over(plan: &Plan, own: Interface, address: Address, prefix: usize) -> 
     requires { HasCost plan.now own.router own.link own.cost }
     ensures { Decides result (IsHadOn plan.now own.router prefix address own.link) }
 {
-    plan.lawful();
     match first_across(plan, own, address, prefix) {
         Some(_) => true,
         None => false,

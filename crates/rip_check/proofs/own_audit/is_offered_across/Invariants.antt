@@ -1,8 +1,9 @@
-use Rattle.std.proofs.Common.{ℕ, ◌<◌, get_or}
-use Rattle.rip_check.specs.Cases.{network_of, told_in}
-use Rattle.rip_check.proofs.HopLemmas.{OffersAt}
+use Rattle.std.proofs.Common.{◌≡◌, ℕ, ◌<◌, get_or}
+use Rattle.rip_check.specs.Cases.{told_in}
+use Rattle.rip_check.proofs.AcrossLemmas.{heard_from}
+use Rattle.rip_check.specs.ToldCells.{HasGatewayAcross}
 use Rattle.rip_check.proofs.own_audit.is_offered_across.Given as goal
 
-abbrev pub invariant-loop-j : goal.invariant-loop-j
-invariant-loop-j g l =
-    (k s : ℕ) → k < l.j-index → OffersAt (network_of l.case) (told_in l.case) l.own.router l.own.link l.case.prefix l.address l.metric l.own.cost (get_or l.numbers k 0) s → ⊥
+abbrev pub invariant-loop-k : goal.invariant-loop-k
+invariant-loop-k g l =
+    (m j : ℕ) → m < l.k-index → HasGatewayAcross l.case.plan.now l.own.router l.own.link l.address (get_or l.places m 0) j → l.metric ≡ heard_from (told_in l.case) l.own.cost j l.case.prefix → ⊥

@@ -1,7 +1,6 @@
-use Rattle.std.proofs.Common.{◌≡◌, ℕ, ◌<◌, get_or}
-use Rattle.rip_check.specs.OwnTells.{HasHopAt}
+use Rattle.rip_check.specs.Firsts.{IsLeastOf}
+use Rattle.rip_check.proofs.HopLemmas.{IsAcrossBefore}
 use Rattle.rip_check.proofs.told_table.first_across.Given as goal
 
-abbrev pub invariant-loop-j : goal.invariant-loop-j
-invariant-loop-j l =
-    (k s : ℕ) → k < l.j-index → HasHopAt l.plan (get_or l.numbers k 0) s l.own.link l.prefix l.address → s ≡ l.own.router
+abbrev pub invariant-loop-k : goal.invariant-loop-k
+invariant-loop-k l = IsLeastOf (IsAcrossBefore l.plan l.own.router l.own.link l.address l.places l.k-index) l.first
