@@ -60,11 +60,11 @@ AreMarks Is marks = (l : ℕ) → l < length marks → Decides (slice_index_or m
 abbrev pub IsHereOn : Network → OwnTables → ℕ → ℕ → ℕ → Type 0
 IsHereOn n t r p l = IsAttached n r p l × ((route_at t r p).here ≡ true)
 
--- interface j is another router's than r on link l, and has address a for prefix p
+-- interface j is on link l and is not router r's, and has address a for prefix p
 abbrev pub HasHopAcross : Network → ℕ → ℕ → ℕ → ℕ → ℕ → Type 0
 HasHopAcross n r l p a j = (s : ℕ) × (s ≢ r) × HasHopAt n j s l p a
 
--- interface j is another router's than r on link l, and has address a itself
+-- interface j is on link l and is not router r's, and has address a itself
 pub record HasAddressAcross (n : Network) (r l a j : ℕ) : Type 0 where
   pub router : ℕ
   pub cost : ℕ
@@ -72,7 +72,7 @@ pub record HasAddressAcross (n : Network) (r l a j : ℕ) : Type 0 where
   pub its : IsInterface n j router l cost
   pub has : HasAddress n j l a
 
--- interface j is another router's than r on link l, and that router has gateway a for its own prefix
+-- interface j is on link l and is not router r's, and its router has gateway a for its own prefix
 -- at place k
 pub record HasGatewayAcross (n : Network) (r l a k j : ℕ) : Type 0 where
   pub router : ℕ
