@@ -1,12 +1,14 @@
-# `make` proves and builds the program, `make demo` audits a first network (before a build too), `make test` proves and tests
-# everything, `make wrong-bodies` tries the wrong bodies alone, `make install PREFIX=..` installs, `make deb` makes a Debian
-# package.
+# `make` proves and builds the program, `make demo` audits a first network (before a build too), `make test` proves all crates and runs
+# all tests, `make mutants` tries all mutants, `make install PREFIX=..` installs, `make deb` makes a Debian package.
 PREFIX ?= /usr/local
 PROGRAM = crates/ripaudit/out/ripaudit
 SHARE = $(DESTDIR)$(PREFIX)/share
 DOC = $(SHARE)/doc/ripaudit
 
-.PHONY: all demo test gate wrong-bodies wrong-bodies-beside install uninstall deb clean
+# The tests of the built program. They run side by side, in any order.
+SUITES = $(addprefix tests/,agreement command-line completions goldens growths limits live pages scripts/test)
+
+.PHONY: all demo test gate suites mutants install uninstall deb clean $(SUITES)
 
 all: $(PROGRAM)
 
@@ -18,27 +20,19 @@ $(PROGRAM): crates.txt HANDLES $(shell find crates/*/src crates/*/specs crates/*
 	@sh packaging/build
 	@touch $(PROGRAM)
 
-# The gate goes from crate to crate, and leaves processors to the wrong bodies, which are tried beside it over the libraries that
-# it has built in a folder of this run.
-test:
-	@beside=$$(mktemp -d) && trap 'rm -rf "$$beside"' EXIT && trap 'exit 130' HUP INT TERM && \
-	    $(MAKE) -j 2 --output-sync=line gate wrong-bodies-beside BESIDE="$$beside"
+test: gate
+	@$(MAKE) --no-print-directory --keep-going --output-sync=target -j "$$(nproc)" suites
 
 gate:
-	sh tests/gate $(if $(BESIDE),--in "$(BESIDE)") $(ANEW)
-	sh tests/run $(PROGRAM)
-	sh tests/limits $(PROGRAM)
-	sh tests/pages $(PROGRAM)
-	sh tests/tools $(PROGRAM)
-	sh tests/growths
-	sh tests/completions
+	sh tests/gate $(ANEW)
 
-# The wrong bodies, which `rt ci` does not try.
-wrong-bodies:
-	tests/wrong-bodies
+suites: $(SUITES)
 
-wrong-bodies-beside:
-	tests/wrong-bodies --beside "$(BESIDE)"
+$(SUITES):
+	sh $@ $(PROGRAM)
+
+mutants:
+	tests/mutants
 
 # The demo stays out of what is installed: it runs the program of the checkout.
 install: $(PROGRAM)

@@ -1,9 +1,8 @@
-# What the scripts of tests/ share: the program, a folder for what a run writes, and how a run is judged. A script gives its
-# own words to `begin` first, and `end` is its last line: `N passed, M failed`. A run that tried nothing
-# fails.
+# What the test scripts share: the program, a scratch folder, and how a run is judged. A script first passes its own words to `begin`,
+# and ends with `end`, which prints `N passed, M failed`. A script that tried nothing fails.
 
 begin() {
-    here=$(cd "$(dirname "$0")/.." && pwd)
+    here=$(cd "$(dirname "$0")" && until [ -e crates.txt ]; do cd ..; done && pwd)
     program=${1:-crates/ripaudit/out/ripaudit}
     case $program in
     /*) ;;
@@ -31,13 +30,14 @@ fail() {
     echo "$1"
 }
 
-# run WORD ..: runs the program, with what it writes in $out and $err.
+# run WORD ..: runs the program; its output goes to $out and $err.
 run() {
     "$program" "$@" > "$out" 2> "$err" < /dev/null
     status=$?
 }
 
-# expect NAME STATUS STDOUT STDERR: what the last run left. STDOUT and STDERR are a text, `*` for any, or `+` for some.
+# expect NAME STATUS STDOUT STDERR: judges the last run. STDOUT and STDERR are a text, or `*` for any text, or `+` for any but the empty
+# one.
 expect() {
     matches "$3" "$out" && matches "$4" "$err" && [ "$status" = "$2" ] && { pass; return; }
     fail "$1: status $status, stdout $(head -c 200 "$out"), stderr $(head -c 200 "$err")"

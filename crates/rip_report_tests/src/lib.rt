@@ -1,5 +1,5 @@
-//! The tests of `rip_report`, over what it makes public: each command as it is called. What the commands print
-//! of many more plans, logs and datagrams is tried with the built program.
+//! Tests of `rip_report` that need a proof: each command on sources that give a few bytes a call, on sources and sinks that fail, and the
+//! callers of the crate. What the commands print is tested with the built program, by tests/goldens.
 #![tactic(auto)]
 
 #[cfg(test)]
@@ -9,12 +9,8 @@ mod captures;
 #[cfg(test)]
 mod commands;
 #[cfg(test)]
-mod logs;
-#[cfg(test)]
-mod own;
+mod inputs;
 #[cfg(test)]
 mod plans;
-#[cfg(test)]
-mod statuses;
 #[cfg(test)]
 mod watch;

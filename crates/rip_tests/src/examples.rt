@@ -50,45 +50,6 @@ link = "c"
 address = "10.3.0.3"
 "#;
 
-/// Two routers, with a prefix behind each; the link between them costs the one 5 and the other 1.
-pub const SLOPE: &str = r#"version = 1
-
-[[link]]
-name = "p"
-prefixes = ["10.1.0.0/16"]
-
-[[link]]
-name = "m"
-prefixes = []
-
-[[link]]
-name = "q"
-prefixes = ["10.2.0.0/16"]
-
-[[router]]
-name = "x"
-
-[[router.interface]]
-link = "p"
-address = "10.1.0.1"
-
-[[router.interface]]
-link = "m"
-address = "192.168.0.1"
-cost = 5
-
-[[router]]
-name = "y"
-
-[[router.interface]]
-link = "m"
-address = "192.168.0.2"
-
-[[router.interface]]
-link = "q"
-address = "10.2.0.1"
-"#;
-
 /// A log of the triangle where it has settled: six lines of 100 bytes each.
 pub const SETTLED: &str =
     "a 10.1.0.1 02020000000200000a030000ffff00000000000000000001000200000a020000ffff00000000000000000010

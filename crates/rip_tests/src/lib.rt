@@ -1,5 +1,5 @@
-//! The tests of the libraries below `rip_report`, over what these make public. They stand apart, since the check
-//! of a crate proves it once more with its tests. The devices and the examples are for `rip_report_tests` too.
+//! Tests of the libraries below `rip_report` that need a proof: devices that fail, refused allocations, and a caller of each library.
+//! They have a crate of their own, because a crate with tests is proved twice. `rip_report_tests` uses the devices and the examples too.
 #![tactic(auto)]
 
 #[cfg(test)]
@@ -14,10 +14,6 @@ pub mod examples;
 mod fixtures;
 #[cfg(test)]
 mod log;
-#[cfg(test)]
-mod plan;
-#[cfg(test)]
-mod routes;
 #[cfg(test)]
 mod table;
 #[cfg(test)]

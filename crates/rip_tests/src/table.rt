@@ -1,90 +1,19 @@
-//! Both tables: that they mean the same, what they come to, and what is left where memory is refused.
+//! Both tables where an allocation fails: `tests/growths` runs these tests with each allocation refused in turn, and expects the lines
+//! that they print.
 
-ghost use Rattle.std.specs.Prelude.{◌≤◌, length};
 ghost use Rattle.rip_table.specs.State.{Fits};
 
-use crate::fixtures::metric;
+use crate::examples::{SETTLED, TRIANGLE};
+use crate::fixtures::{fill, new_grid};
+use rip_log::{FromRead, LogReader, Source};
 use rip_plan::Plan;
-use rip_table::{MetricTable, Table, TableError};
-use rip_wire::{Address, Entry, MOST_ENTRIES, Prefix, read, write_response};
+use rip_table::{CollectCause, CollectError, ListTable, MetricTable, Table, TableError, collect};
+use std::alloc::{AllocError, Global};
 use std::process::Abort;
+use std::test::Fail;
 
-mod events;
-mod growths;
-mod logs;
-mod scenes;
-mod windows;
-
-/// Three interfaces on two links, and a prefix.
-const PLAN: &str = r#"version = 1
-
-[[link]]
-name = "a"
-prefixes = ["10.1.0.0/16"]
-
-[[link]]
-name = "b"
-prefixes = []
-
-[[router]]
-name = "r1"
-
-[[router.interface]]
-link = "a"
-address = "10.1.0.1"
-
-[[router.interface]]
-link = "b"
-address = "10.2.0.1"
-
-[[router]]
-name = "r2"
-
-[[router.interface]]
-link = "a"
-address = "10.1.0.2"
-"#;
-
-fn prefix(rt: &impl Abort, x: u8) -> Prefix {
-    Prefix::new(Address::new(u32::from_be_bytes([10, x, 0, 0])), 16).expect(rt, "a prefix")
-}
-
-/// The entry of 10.X.0.0/16 with this metric and next hop.
-fn entry(rt: &impl Abort, x: u8, number: u32, next_hop: &str) -> Entry {
-    Entry {
-        tag: 0,
-        prefix: prefix(rt, x),
-        next_hop: Address::parse(next_hop).expect(rt, "an address"),
-        metric: metric(rt, number),
-    }
-}
-
-/// Takes a response of an interface with these entries.
-fn take<T: MetricTable>(
-    rt: &impl Abort,
-    plan: &Plan,
-    table: &mut T,
-    interface: usize,
-    entries: &[Entry],
-) -> Result<(), TableError>
-    requires fits { Fits plan.now (T.state table.old) }
-    requires some { 1 ≤ length entries.now }
-    requires few { length entries.now ≤ MOST_ENTRIES }
-    ensures { Fits plan.now (T.state table.new) }
-{
-    let mut room = [0; 504];
-    let len = write_response(entries, &mut room);
-    let Ok(datagram) = read(&room[..len]) else {
-        panic!(rt; "no datagram");
-    };
-    if interface >= plan.interfaces() {
-        panic!(rt; "no interface");
-    }
-    table.take(plan, interface, &datagram)
-}
-
-/// The metric, if any, that an interface showed for the prefix of a number.
-pub(crate) fn shown<T: Table>(table: &T, interface: usize, k: usize) -> Option<u32> {
+/// The metric that an interface showed for the prefix with number `k`.
+fn shown<T: Table>(table: &T, interface: usize, k: usize) -> Option<u32> {
     if interface < table.interface_count() && k < table.prefix_count() {
         table.metric(interface, k).map(|metric| metric.get())
     } else {
@@ -92,7 +21,7 @@ pub(crate) fn shown<T: Table>(table: &T, interface: usize, k: usize) -> Option<u
     }
 }
 
-/// Whether two tables show one thing at an interface.
+/// Whether both tables show the same at an interface.
 fn agree_at<T: Table, U: Table>(one: &T, other: &U, interface: usize) -> bool {
     for k in 0..one.prefix_count() {
         if shown(one, interface, k) != shown(other, interface, k) {
@@ -104,7 +33,7 @@ fn agree_at<T: Table, U: Table>(one: &T, other: &U, interface: usize) -> bool {
         && one.heard(interface) == other.heard(interface)
 }
 
-/// Whether two tables have one list of prefixes.
+/// Whether both tables have the same prefixes in the same order.
 fn list_alike<T: Table, U: Table>(one: &T, other: &U) -> bool {
     for k in 0..one.prefix_count() {
         if k >= other.prefix_count() || one.prefix(k) != other.prefix(k) {
@@ -114,7 +43,7 @@ fn list_alike<T: Table, U: Table>(one: &T, other: &U) -> bool {
     one.prefix_count() == other.prefix_count()
 }
 
-/// Whether two tables mean the same: the list of prefixes, what is shown, and who was heard.
+/// Whether both tables have the same meaning: prefixes, metrics and interfaces that were heard.
 fn agree<T: Table, U: Table>(one: &T, other: &U) -> bool {
     for interface in 0..one.interface_count() {
         if !agree_at(one, other, interface) {
@@ -124,7 +53,160 @@ fn agree<T: Table, U: Table>(one: &T, other: &U) -> bool {
     one.interface_count() == other.interface_count() && list_alike(one, other)
 }
 
-/// The mark of an interface.
-fn is_heard<T: Table>(table: &T, interface: usize) -> bool {
-    interface < table.interface_count() && table.heard(interface)
+/// Lines after the settled log: a new prefix, the same prefix from another interface, a repetition of line 1, three new prefixes, and a
+/// request.
+const LATER: &str = "a 10.1.0.1 02020000000200000a090000ffff00000000000000000010
+c 10.3.0.1 02020000000200000a090000ffff00000000000000000002
+a 10.1.0.1 02020000000200000a030000ffff00000000000000000001
+a 10.1.0.1 02020000000200000a640000ffff00000000000000000010000200000a650000ffff00000000000000000010000200000a660000ffff00000000000000000010
+z 9.9.9.9 01020000
+";
+
+/// The line that repeats what line 1 shows.
+const REPEAT: u32 = 9;
+
+/// Digits by their value.
+const DIGITS: [&str; 16] = [
+    "0", "1", "2", "3", "4", "5", "6", "7", "8", "9", "a", "b", "c", "d", "e", "f",
+];
+
+/// Adds a response with 25 prefixes, from 10.FIRST.0.0/16 on.
+fn push_response(log: &mut String, first: u8) -> Result<(), AllocError> {
+    log.push_str("b 10.2.0.3 02020000")?;
+    for x in first..first.saturating_add(25) {
+        log.push_str("000200000a")?;
+        log.push_str(DIGITS[usize::from(x / 16)])?;
+        log.push_str(DIGITS[usize::from(x % 16)])?;
+        log.push_str("0000ffff00000000000000000010")?;
+    }
+    log.push_str("\n")
+}
+
+/// The lines of the tests: with the last ones the tables grow more than once.
+fn lines(alloc: Global) -> Result<String, AllocError> {
+    let mut text = String::from_str(alloc, SETTLED)?;
+    text.push_str(LATER)?;
+    for first in [110, 140, 170, 200] {
+        push_response(&mut text, first)?;
+    }
+    Ok(text)
+}
+
+/// A table that took a log.
+fn table_of(
+    rt: &impl Abort,
+    alloc: Global,
+    plan: &Plan,
+    log: &[u8],
+) -> Result<ListTable, TableError> {
+    let mut table = ListTable::new(alloc, plan)?;
+    fill(rt, alloc, plan, log, &mut table)?;
+    Ok(table)
+}
+
+/// For each line of a log, a table that took the lines before it.
+fn tables_before(
+    rt: &impl Abort,
+    alloc: Global,
+    plan: &Plan,
+    log: &str,
+) -> Result<Vec<ListTable>, TableError> {
+    let mut before = Vec::new(alloc);
+    let mut front = String::new(alloc);
+    for line in log.lines() {
+        before.push(table_of(rt, alloc, plan, front.as_bytes())?)?;
+        front.push_str(line)?;
+        front.push_str("\n")?;
+    }
+    Ok(before)
+}
+
+/// Expects that the failed allocation was for a line with something new, that the table is as after the lines before it, and that the
+/// reader goes on after it.
+fn expect_memory<R: Source, T: MetricTable>(
+    rt: &impl Abort,
+    error: CollectError,
+    reader: &mut LogReader<R>,
+    table: &T,
+    before: &[ListTable],
+) {
+    assert!(rt; error.cause == CollectCause::Table(TableError::Memory));
+    assert!(rt; error.line != REPEAT);
+    let Some(other) = before.get((error.line as usize).wrapping_sub(1)) else {
+        panic!(rt; "no line");
+    };
+    assert!(rt; agree(table, other));
+    match reader.next() {
+        Ok(Some(record)) => assert!(rt; record.line == error.line.wrapping_add(1)),
+        Ok(None) => assert!(rt; error.line as usize == before.len()),
+        Err(_) => panic!(rt; "no record"),
+    }
+}
+
+/// Joins a log into an empty table, and then again, which allocates nothing.
+fn joins_twice<T: MetricTable>(
+    rt: &impl Abort,
+    alloc: Global,
+    plan: &Plan,
+    log: &str,
+    table: &mut T,
+    before: &[ListTable],
+) -> Result<(), TableError>
+    requires { Fits plan.now (T.state table.old) }
+{
+    let (Ok(mut reader), Ok(mut again)) = (
+        LogReader::new(alloc, FromRead::new(log.as_bytes())),
+        LogReader::new(alloc, FromRead::new(log.as_bytes())),
+    ) else {
+        return Err(TableError::Memory);
+    };
+    if let Err(error) = collect(plan, &mut reader, table) {
+        expect_memory(rt, error, &mut reader, table, before);
+        return Err(TableError::Memory);
+    }
+    assert!(rt; collect(plan, &mut again, table).is_ok());
+    Ok(())
+}
+
+/// Joins the lines into an empty table. Returns whether there was memory for all of them.
+fn joins<T: MetricTable>(rt: &impl Abort, alloc: Global, plan: &Plan, table: &mut T) -> bool
+    requires { Fits plan.now (T.state table.old) }
+{
+    let Ok(log) = lines(alloc) else {
+        return false;
+    };
+    match tables_before(rt, alloc, plan, log.as_str()) {
+        Ok(before) => {
+            joins_twice(rt, alloc, plan, log.as_str(), table, before.as_slice()).is_ok()
+        }
+        Err(_) => false,
+    }
+}
+
+#[test]
+fn grid_joins_the_lines_before(rt: HostRuntime) -> Result<(), Fail> {
+    let Ok(plan) = Plan::read(rt.alloc(), TRIANGLE.as_bytes()) else {
+        return Ok(());
+    };
+    let Ok(mut grid) = new_grid(rt.alloc(), &plan) else {
+        return Ok(());
+    };
+    if joins(&rt, rt.alloc(), &plan, &mut grid) {
+        println!(rt; "fifteen lines")?;
+    }
+    Ok(())
+}
+
+#[test]
+fn list_joins_the_lines_before(rt: HostRuntime) -> Result<(), Fail> {
+    let Ok(plan) = Plan::read(rt.alloc(), TRIANGLE.as_bytes()) else {
+        return Ok(());
+    };
+    let Ok(mut list) = ListTable::new(rt.alloc(), &plan) else {
+        return Ok(());
+    };
+    if joins(&rt, rt.alloc(), &plan, &mut list) {
+        println!(rt; "fifteen lines")?;
+    }
+    Ok(())
 }
