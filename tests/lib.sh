@@ -2,7 +2,7 @@
 # and ends with `end`, which prints `N passed, M failed`. A script that tried nothing fails.
 
 begin() {
-    here=$(cd "$(dirname "$0")" && until [ -e crates.txt ]; do cd ..; done && pwd)
+    here=$(cd "$(dirname "$0")" && until [ -e crates.txt ] || [ "$PWD" = / ]; do cd ..; done && pwd)
     program=${1:-crates/ripaudit/out/ripaudit}
     case $program in
     /*) ;;

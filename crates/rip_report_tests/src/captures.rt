@@ -38,17 +38,22 @@ const FIRST_LINE: &str =
 const BOTH_LINES: &str =
     "a 10.1.0.1 02020000000200000a020000ffff00000000000000000003\na unknown cut\nfailed: read\n";
 
-/// Writes the log of a file, all of which belongs to link a.
-fn log<R: Read + Drop, W: Write>(
+/// A log of datagrams as they were sent, without times.
+fn new_log() -> CaptureLog {
+    CaptureLog::new(Manner {
+        authentication: Authentication::AsSent,
+        times: false,
+    })
+}
+
+/// Adds a file to a log, all of which belongs to link a.
+fn add<R: Read + Drop, W: Write>(
     rt: &impl Abort,
     alloc: Global,
+    log: &mut CaptureLog,
     file: R,
     out: IntoWrite<W>,
 ) -> (FromRead<R>, IntoWrite<W>, Result<Status, RunError>) {
-    let mut log = CaptureLog::new(Manner {
-        authentication: Authentication::AsSent,
-        times: false,
-    });
     let part = FilePart {
         link: "a",
         selection: Selection {
@@ -57,7 +62,7 @@ fn log<R: Read + Drop, W: Write>(
         },
     };
     assert!(rt; is_name(part.link.as_bytes()));
-    run_log(alloc, &mut log, &part, FromRead::new(file), out)
+    run_log(alloc, log, &part, FromRead::new(file), out)
 }
 
 /// Expects this answer and this text for a file from a reader. The source comes back.
@@ -68,7 +73,8 @@ fn expect_answer<'a>(
     due: Result<Status, RunError>,
     text: &str,
 ) -> FromRead<Pieces<'a>> {
-    let (source, out, answer) = log(rt, alloc, file, IntoWrite::new(Vec::new(alloc)));
+    let out = IntoWrite::new(Vec::new(alloc));
+    let (source, out, answer) = add(rt, alloc, &mut new_log(), file, out);
     assert!(rt; answer == due && !out.failed());
     assert!(rt; out.into_writer().as_slice() == text.as_bytes());
     source
@@ -106,8 +112,22 @@ fn a_source_that_fails(rt: HostRuntime) {
 fn a_sink_that_fails(rt: HostRuntime) {
     for most in 0..TEXT.len() {
         let out = IntoWrite::new(Slow::new(rt.alloc(), most));
-        let (source, out, answer) = log(&rt, rt.alloc(), &FILE[..], out);
+        let (source, out, answer) = add(&rt, rt.alloc(), &mut new_log(), &FILE[..], out);
         assert!(rt; answer == Err(RunError::Write) && out.failed() && !source.failed());
         assert!(rt; Some(out.into_writer().taken()) == TEXT.as_bytes().get(..most));
+    }
+}
+
+/// A refused file does not count for the status of the log, as one does that is unclear.
+#[test]
+fn the_status_of_a_log(rt: HostRuntime) {
+    for (file, answer, status) in [
+        (&b"no capture"[..], Status::Refused, Status::Done),
+        (&FILE[..], Status::Unclear, Status::Unclear),
+    ] {
+        let mut log = new_log();
+        let out = IntoWrite::new(Vec::new(rt.alloc()));
+        let (_, _, given) = add(&rt, rt.alloc(), &mut log, file, out);
+        assert!(rt; given == Ok(answer) && log.status() == status);
     }
 }

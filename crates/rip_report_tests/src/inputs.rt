@@ -64,7 +64,8 @@ fn a_source_that_fails(rt: HostRuntime) {
 #[test]
 fn each_command_where_the_source_fails(rt: HostRuntime) {
     for row in ROWS {
-        for fails_at in [1, 20, row.input.len().wrapping_add(1)] {
+        let len = row.input.len();
+        for fails_at in [1, len / 2, len, len.wrapping_add(1)] {
             expect_read_failure(&rt, rt.alloc(), &row, fails_at);
         }
     }
@@ -117,6 +118,7 @@ fn expect_write_failure(rt: &impl Abort, alloc: Global, row: &Row, text: &[u8], 
 fn a_sink_that_fails(rt: HostRuntime) {
     for row in ROWS {
         let text = text_of(&rt, rt.alloc(), &row);
+        assert!(rt; !text.is_empty());
         for most in 0..text.len() {
             expect_write_failure(&rt, rt.alloc(), &row, text.as_slice(), most);
         }

@@ -26,7 +26,7 @@ struct Row {
     status: Status,
 }
 
-const ROWS: [Row; 5] = [
+const ROWS: [Row; 6] = [
     Row {
         command: Command::Plan,
         given: TRIANGLE,
@@ -51,6 +51,11 @@ const ROWS: [Row; 5] = [
         command: Command::Decode,
         given: "02020000000200000a030000ffff00000000000000000001",
         status: Status::Done,
+    },
+    Row {
+        command: Command::Decode,
+        given: "020",
+        status: Status::Refused,
     },
 ];
 
@@ -95,6 +100,7 @@ fn expect_until(rt: &impl Abort, alloc: Global, row: &Row, text: &[u8], most: us
 fn sinks_that_fail(rt: HostRuntime) {
     for row in ROWS {
         let text = text_of(&rt, rt.alloc(), &row);
+        assert!(rt; !text.is_empty());
         for most in 0..text.len().wrapping_add(1) {
             expect_until(&rt, rt.alloc(), &row, text.as_slice(), most);
         }

@@ -1,8 +1,8 @@
-//! The reader of captures reads what a record or a block needs, and no more.
+//! The reader of captures pulls what a record or a block needs, and no more; and what a failed pull leaves.
 
 use crate::devices::Pieces;
 use crate::examples::{BLOCKS, LITTLE};
-use rip_capture::CaptureReader;
+use rip_capture::{CaptureCode, CaptureError, CaptureReader};
 use rip_log::{FromRead, Source};
 use std::alloc::Global;
 use std::process::Abort;
@@ -53,4 +53,32 @@ fn what_is_held_is_ready(rt: HostRuntime) -> Result<(), Fail> {
         }
     }
     Ok(())
+}
+
+/// The pull that fails, how many packets come before it, and where the error is.
+#[test]
+fn failing_pulls(rt: HostRuntime) {
+    for (pull, packets, at) in [
+        (1, 0, 0),
+        (24, 0, 0),
+        (25, 0, 24),
+        (106, 0, 24),
+        (107, 1, 106),
+    ] {
+        let mut reader = reader_of(&rt, rt.alloc(), Pieces::failing(&LITTLE, pull));
+        for _ in 0..packets {
+            assert!(rt; matches!(reader.next(), Ok(Some(_))));
+        }
+        let fault = CaptureError {
+            code: CaptureCode::Read,
+            at,
+        };
+        for _ in 0..2 {
+            match reader.next() {
+                Err(error) => assert!(rt; error == fault),
+                Ok(_) => panic!(rt; "no failure"),
+            }
+        }
+        assert!(rt; reader.into_source().failed());
+    }
 }

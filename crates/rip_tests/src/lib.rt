@@ -9,11 +9,15 @@ mod capture;
 #[cfg(test)]
 mod check;
 pub mod devices;
+#[cfg(test)]
+mod events;
 pub mod examples;
 #[cfg(test)]
 mod fixtures;
 #[cfg(test)]
 mod log;
+#[cfg(test)]
+mod routes;
 #[cfg(test)]
 mod table;
 #[cfg(test)]

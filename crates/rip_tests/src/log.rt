@@ -9,6 +9,7 @@ mod growths;
 mod pulls;
 mod sinks;
 mod sources;
+mod texts;
 
 fn reader_of<'a>(
     rt: &impl Abort,

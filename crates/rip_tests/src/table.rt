@@ -1,10 +1,10 @@
-//! Both tables where an allocation fails: `tests/growths` runs these tests with each allocation refused in turn, and expects the lines
-//! that they print.
+//! Both tables: that they agree about the same log, and what is left where an allocation fails. `tests/growths` runs the tests of that
+//! with each allocation refused in turn, and expects the lines that they print.
 
 ghost use Rattle.rip_table.specs.State.{Fits};
 
-use crate::examples::{SETTLED, TRIANGLE};
-use crate::fixtures::{fill, new_grid};
+use crate::examples::{BAD, PHANTOM, SETTLED, TRIANGLE};
+use crate::fixtures::{fill, new_grid, plan_of};
 use rip_log::{FromRead, LogReader, Source};
 use rip_plan::Plan;
 use rip_table::{CollectCause, CollectError, ListTable, MetricTable, Table, TableError, collect};
@@ -51,6 +51,67 @@ fn agree<T: Table, U: Table>(one: &T, other: &U) -> bool {
         }
     }
     one.interface_count() == other.interface_count() && list_alike(one, other)
+}
+
+/// Joins a log into a table, up to its end or to what refuses it.
+fn join<T: MetricTable>(
+    rt: &impl Abort,
+    alloc: Global,
+    plan: &Plan,
+    log: &[u8],
+    table: &mut T,
+) -> Result<(), CollectError>
+    requires { Fits plan.now (T.state table.old) }
+{
+    match LogReader::new(alloc, FromRead::new(log)) {
+        Ok(mut reader) => collect(plan, &mut reader, table),
+        Err(_) => panic!(rt; "no memory"),
+    }
+}
+
+/// Expects the same outcome for both tables, and the same tables after it.
+fn expect_same(rt: &impl Abort, alloc: Global, plan: &Plan, log: &[u8]) {
+    let (Ok(mut list), Ok(mut grid)) = (ListTable::new(alloc, plan), new_grid(alloc, plan)) else {
+        panic!(rt; "no memory");
+    };
+    let outcome = join(rt, alloc, plan, log, &mut list);
+    assert!(rt; outcome == join(rt, alloc, plan, log, &mut grid));
+    assert!(rt; agree(&list, &grid));
+}
+
+/// Beginnings of logs, and a log that is refused in line 7 for a changed metric.
+#[test]
+fn both_tables(rt: HostRuntime) {
+    let plan = plan_of(&rt, rt.alloc(), TRIANGLE);
+    for (log, end) in [
+        (SETTLED, 20),
+        (SETTLED, 350),
+        (SETTLED, 598),
+        (PHANTOM, 720),
+        (PHANTOM, 960),
+        (BAD, 660),
+    ] {
+        let front = log.as_bytes().get(..end).unwrap_or(b"");
+        expect_same(&rt, rt.alloc(), &plan, front);
+    }
+}
+
+/// What a refused log leaves: the table of the lines before.
+#[test]
+fn a_changed_metric_leaves_the_lines_before(rt: HostRuntime) {
+    let plan = plan_of(&rt, rt.alloc(), TRIANGLE);
+    let (Ok(mut list), Ok(mut grid)) = (
+        ListTable::new(rt.alloc(), &plan),
+        new_grid(rt.alloc(), &plan),
+    ) else {
+        panic!(rt; "no memory");
+    };
+    match join(&rt, rt.alloc(), &plan, BAD.as_bytes(), &mut grid) {
+        Err(error) => assert!(rt; error.line == 7),
+        Ok(()) => panic!(rt; "no refusal"),
+    }
+    assert!(rt; join(&rt, rt.alloc(), &plan, SETTLED.as_bytes(), &mut list).is_ok());
+    assert!(rt; agree(&list, &grid));
 }
 
 /// Lines after the settled log: a new prefix, the same prefix from another interface, a repetition of line 1, three new prefixes, and a

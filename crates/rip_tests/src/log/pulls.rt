@@ -1,4 +1,4 @@
-//! When the reader beneath is read, and what a read that fails leaves.
+//! When a reader of a log pulls, and what a failed pull leaves.
 
 use super::{expect_outcome, reader_of};
 use crate::devices::{Endless, Pieces};
@@ -92,5 +92,18 @@ fn endless_sources(rt: HostRuntime) {
             Ok(_) => panic!(rt; "no fault"),
         }
         assert!(rt; reader.into_source().into_reader().calls() == calls);
+    }
+}
+
+/// A source that fails within a line of 5,000 bytes, most of which are passed over.
+#[test]
+fn a_failure_in_a_long_line(rt: HostRuntime) {
+    let line = [b'x'; 5000];
+    let mut reader = reader_of(&rt, rt.alloc(), Pieces::failing(&line, 4000));
+    for code in [LogCode::Read, LogCode::Ended] {
+        match reader.next_line() {
+            Err(error) => assert!(rt; error == LogError { code, line: 1 }),
+            Ok(_) => panic!(rt; "a failure"),
+        }
     }
 }
