@@ -200,7 +200,8 @@ impl<T: WindowTable> Scene<T> {
     /// Ends a second: forgets the prefixes beside the plan's that nobody shows any more.
     pub fn close(&mut self, plan: &Plan)
         requires { Fits plan.now (shown (view_of T.window self.old).window) }
-        ensures view { view_of T.window self.new ≡ closed_view plan.now (view_of T.window self.old) }
+        ensures view { view_of T.window self.new
+            ≡ closed_view plan.now (view_of T.window self.old) }
         ensures fits { Fits plan.now (shown (view_of T.window self.new).window) }
     {
         self.table.forget(plan);

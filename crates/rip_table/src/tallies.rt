@@ -117,8 +117,8 @@ impl<S: BuildHasher + Drop> Tallies<S> {
         self.interfaces[interface].refuse_again(line);
     }
 
-    /// What a stranger sent, on a line after others: a response, or a line that is bad by this
-    /// code. Where memory fails nothing is added.
+    /// What a stranger sent: a response, or a line that is bad by this code. Where memory fails
+    /// nothing is counted.
     pub(crate) fn add_stranger(
         &mut self,
         link: &str,
@@ -130,6 +130,8 @@ impl<S: BuildHasher + Drop> Tallies<S> {
         ensures heard { OnOk result ((events : List EventAt) → HasHeard self.old events →
             HasHeard self.new (events
             ++ stranger_line (origin_of link.now address) line bad ∷ [])) }
+        ensures kept { OnErr result ((events : List EventAt) → HasHeard self.old events →
+            HasHeard self.new events) }
         ensures interfaces { interfaces_of self.new ≡ interfaces_of self.old }
     {
         self.strangers.add(link, address, line, bad)?;

@@ -1,11 +1,13 @@
 //! The reader of the lines of a log with times.
 
-ghost use Rattle.std.specs.Prelude.{◌≡◌, ◌⊎◌, ◌<◌, ℕ, List, Option, IfErr, IfOk, IfSome, OnErr, OnOk, Ok, None, length, true};
+ghost use Rattle.std.specs.Prelude.{◌≡◌, ◌⊎◌, ◌<◌, ◌≤◌, ℕ, List, Option, IfErr, IfOk, IfSome, OnErr, OnOk, Ok, None, length, true};
 ghost use Rattle.std.specs.Borrow.{sem};
 ghost use Rattle.std.specs.Io.BufRead.{Rests};
+ghost use Rattle.rip_log.specs.declared.limits.TheConstants.{MOST_HELD_BYTES};
 
 use crate::device::Failed;
 use crate::error::LogCode;
+use crate::limits::MOST_HELD_BYTES;
 use crate::reader::name_text;
 use crate::source::Source;
 use crate::span::Span;
@@ -216,6 +218,13 @@ impl<R: Source> TimedReader<R> {
             Ok(None) => Ok(None),
             Ok(Some(found)) => Ok(Some(self.line(found))),
         }
+    }
+
+    /// What it holds of its source is no more than its buffer has room for. Does nothing.
+    pub fn lawful(&self)
+        ensures { length (timed_held self.now) ≤ MOST_HELD_BYTES }
+    {
+        let _ = &self.window;
     }
 
     /// The source, as it stands.
