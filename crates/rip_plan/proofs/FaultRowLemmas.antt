@@ -9,6 +9,7 @@ use Rattle.rip_plan.specs.declared.error.At.{At}
 use Rattle.rip_plan.specs.declared.error.At.TheVariants.{Link, LinkOnly, LinkPrefix, Router, RouterInterface, RouterOwn}
 use Rattle.rip_plan.specs.declared.error.PlanError.{PlanError}
 use Rattle.rip_plan.specs.PlanFaults.{Before, nth, pass_of, TableFault, IsItem, IsSo, IsAstray, place_spots}
+use Rattle.rip_plan.specs.Relations.{IsGatewayOfNeighbour}
 use Rattle.rip_plan.specs.PlanOf.{PlanOf}
 use Rattle.rip_plan.specs.Network.{Network}
 use Rattle.rip_plan.proofs.FindingLemmas.{Among, Each, Finds, Found, InTurn, Low, ranked, row_at, Starts}
@@ -82,13 +83,13 @@ router_starts r o h = grind arith
 abbrev pub code_rows : ℕ → PlanCode → Found → Type 0
 code_rows n c o = (o.pass ≡ n) × (o.error.code ≡ c)
 
--- those of each of these codes, and then those of the last pass
-abbrev pub later_rows : List PlanCode → Found → Type 0
-later_rows [] o = code_rows 5 codes.UnknownLink o
-later_rows (c ∷ cs) o = code_rows (pass_of c) c o ⊎ later_rows cs o
+-- those of each of these passes, and then those of the last pass
+abbrev pub later_rows : List (ℕ × PlanCode) → Found → Type 0
+later_rows [] o = code_rows 6 codes.UnknownLink o
+later_rows ((n, c) ∷ passes) o = code_rows n c o ⊎ later_rows passes o
 
 abbrev pub pass_rows : Found → Type 0
-pass_rows = later_rows (codes.DuplicatePrefix ∷ codes.TwiceOnLink ∷ codes.DuplicateAddress ∷ codes.NoInterface ∷ [])
+pass_rows = later_rows ((1, codes.DuplicatePrefix) ∷ (2, codes.TwiceOnLink) ∷ (3, codes.DuplicateAddress) ∷ (4, codes.DuplicateAddress) ∷ (5, codes.NoInterface) ∷ [])
 
 pub pass_apart : (e o : Found) → e.pass < o.pass → Before (ranked o) (ranked e) → ⊥
 pass_apart e o h before = grind arith
@@ -127,20 +128,27 @@ module _ (document : Members) (links routers : List Data) where
   abbrev pub IsTold : Found → Type 0
   IsTold o = TableFault document links routers o.error.code o.error.place
 
-  -- the last row of the last pass
+  -- the two faults of own prefixes that have a pass of their own
+  abbrev pub IsGatewayTakenAt : At → Type 0
+  IsGatewayTakenAt (RouterOwn r j) = (n : Network) × PlanOf document n × IsSo (IsGatewayOfNeighbour n) (place_spots links routers) (RouterOwn r j)
+  IsGatewayTakenAt place = ⊥
+
   abbrev pub IsAstrayAt : At → Type 0
   IsAstrayAt (RouterOwn r j) = (n : Network) × PlanOf document n × IsSo (IsAstray n) (place_spots links routers) (RouterOwn r j)
   IsAstrayAt place = ⊥
 
+  abbrev pub IsGatewayTaken : Found → Type 0
+  IsGatewayTaken o = IsGatewayTakenAt o.error.place × (o.error.code ≡ codes.DuplicateAddress) × (o.pass ≡ 4)
+
   abbrev pub IsLast : Found → Type 0
-  IsLast o = IsAstrayAt o.error.place × (o.error.code ≡ codes.UnknownLink) × (o.pass ≡ 5)
+  IsLast o = IsAstrayAt o.error.place × (o.error.code ≡ codes.UnknownLink) × (o.pass ≡ 6)
 
   abbrev pub IsOfTables : Found → Type 0
-  IsOfTables o = (IsTold o × (o.pass ≡ pass_of o.error.code)) ⊎ IsLast o
+  IsOfTables o = (IsTold o × (o.pass ≡ pass_of o.error.code)) ⊎ (IsGatewayTaken o ⊎ IsLast o)
 
-  -- what is found before the last pass
-  pub told_finds : {A : Type 0} (R : Found → Type 0) (r : Result A PlanError) → ((o : Found) → R o → (o.pass ≡ pass_of o.error.code) × (o.pass < 5)) → Finds IsTold R r → Finds IsOfTables R r
-  told_finds R r sooner h = grind arith
+  -- what is found in the pass of its code
+  pub told_finds : {A : Type 0} (R : Found → Type 0) (r : Result A PlanError) → ((o : Found) → R o → o.pass ≡ pass_of o.error.code) → Finds IsTold R r → Finds IsOfTables R r
+  told_finds R r its h = grind arith
 
   -- ---- each fault of the tables is told in one of the rows
 
@@ -184,7 +192,7 @@ module _ (document : Members) (links routers : List Data) where
   asked R codes.DuplicatePrefix place h = inr (inl (refl, refl))
   asked R codes.TwiceOnLink place h = inr (inr (inl (refl, refl)))
   asked R codes.DuplicateAddress place h = inr (inr (inr (inl (refl, refl))))
-  asked R codes.NoInterface place h = inr (inr (inr (inr (inl (refl, refl)))))
+  asked R codes.NoInterface place h = inr (inr (inr (inr (inr (inl (refl, refl))))))
   asked R c place h = absurd h
 
   first_row : (place : At) (o : Found) → StandsAt place → Among (asked_at place) (rest_at place) o → first_rows o

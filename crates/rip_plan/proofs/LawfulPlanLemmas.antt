@@ -27,7 +27,7 @@ use Rattle.rip_plan.specs.Seats.{is_on}
 use Rattle.rip_plan.specs.PlanFaults.{AreTwice, DoMeet, HasTables, HasWrongCost, HasWrongDirect, HaveOneAddress, IsAstray, IsClash, IsFault, IsMisnamed, IsText, TableFault, also_spots, interface_spots, listed_spots, pass_of, place_spots}
 use Rattle.rip_plan.specs.PlanOf.{AreAlsoOf, HasItems, IsAddressOf, IsCostOf, IsDirectOf, IsInterfaceOf, IsListOf, IsListedOf, IsNameOf, IsPlaceOf, IsPlanOfText, Matched, Placement, PlanOf, each_once, items_in, items_under}
 use Rattle.rip_plan.specs.PlanText.{sketch_of}
-use Rattle.rip_plan.specs.Relations.{Carries, HasAddress, HasAddresses, HasList, IsAttached, IsConnected, IsEachOnce, IsGateway, IsInside, IsInterface, IsLawful, IsListed, IsOn, IsOwnAt, IsPlace, IsPrefix}
+use Rattle.rip_plan.specs.Relations.{Carries, HasAddress, HasAddresses, HasList, IsAttached, IsConnected, IsEachOnce, IsGateway, IsGatewayOfNeighbour, IsInside, IsInterface, IsLawful, IsListed, IsOn, IsOwnAt, IsPlace, IsPrefix}
 use Rattle.rip_plan.proofs.DocumentTableLemmas.{by_root}
 use Rattle.rip_plan.proofs.SpotLemmas.{also_spot, interface_spot, place_spot, spot_under, under_item}
 use Rattle.rip_plan.proofs.ItemLemmas.{all_at, all_here, any_finds, cases_option, distinct_at, get_left, get_seen, get_some, get_split, none_at}
@@ -270,13 +270,18 @@ module _ (laws : TextLaws) (bytes : List ℕ) (document : Members) (n : Network)
   gateway_known : (r p a : ℕ) → IsGateway n r p a → a < 2 ^ 32
   gateway_known r p a (k, h) = grind (arith, (own_table document n plan k p h.own h.place).of.via)
 
+  gateway_no_neighbour : (k : ℕ) → IsGatewayOfNeighbour n k → ⊥
+  gateway_no_neighbour k g =
+      let t = own_table document n plan k g.prefix g.own.own g.own.place in
+      none (fault codes.DuplicateAddress (RouterOwn (1 + t.r) (suc t.j))) (4, inr (inl ((document, plan.links, plan.routers, has, (n, plan, (k, t.spot, g))), refl, refl)))
+
   attached_there : (r p l : ℕ) → IsAttached n r p l → IsOn n r l
   attached_there r p l (k, h) =
       elim (cases_option (cost_on r l n.interfaces)) [
         | inl e ↦
             let t = own_table document n plan k p h.own h.place in
             let astray : IsAstray n k = (p, r, l, h, λ (c, (i, on)). cost_there r l i n.interfaces on.interface on.listed on.router on.link e) in
-            absurd (none (fault codes.UnknownLink (RouterOwn (1 + t.r) (suc t.j))) (5, inr ((document, plan.links, plan.routers, has, (n, plan, (k, t.spot, astray))), refl, refl)))
+            absurd (none (fault codes.UnknownLink (RouterOwn (1 + t.r) (suc t.j))) (6, inr (inr ((document, plan.links, plan.routers, has, (n, plan, (k, t.spot, astray))), refl, refl))))
         | inr (d, e) ↦
             let (i, (x, at, router, link, direct)) = cost_found r l d n.interfaces e in
             (x.cost, (i, record { interface = x; listed = at; router = router; link = link; cost = refl }))
@@ -376,6 +381,7 @@ module _ (laws : TextLaws) (bytes : List ℕ) (document : Members) (n : Network)
         own_cost_most = λ k p r c h. (own_costs_good k p r c h).1;
         attached_there = attached_there;
         gateway_known = gateway_known;
+        gateway_no_neighbour = gateway_no_neighbour;
         carried_once = λ k j p l h h'. apart k j (no_meeting k j (p, inl (l, h, h'))) (no_meeting j k (p, inl (l, h', h)));
         touched_once = λ k j p r c d h h'. apart k j (no_meeting k j (p, inr (r, c, d, h, h'))) (no_meeting j k (p, inr (r, d, c, h', h)));
       }

@@ -1,7 +1,8 @@
 -- What the later passes find of the faults of a plan.
-use Rattle.std.proofs.Common.{◌≡◌, ◌↔◌, ℕ, ◌+◌, ◌<◌, ◌≤◌, ◌⊎◌, inl, inr, suc, List, [], ◌∷◌, ◌++◌, length, true, false, ◌||◌, Option, Some, None, Result, refl, sym, ap, subst, ◌∙◌, arith, Bool, zero, map}
+use Rattle.std.proofs.Common.{◌≡◌, ◌↔◌, ℕ, ◌&&◌, not, ◌+◌, ◌<◌, ◌≤◌, ◌⊎◌, inl, inr, suc, List, [], ◌∷◌, ◌++◌, length, true, false, ◌||◌, Option, Some, None, Result, Ok, Err, refl, sym, ap, subst, ◌∙◌, arith, Bool, zero, map}
 use Rattle.std.specs.Prelude.{slice_get, find, option_map, unwrap_or, ◌==◌}
 use Rattle.std.specs.List.{IsDistinct, list_any, range_with_len}
+use Rattle.std.specs.Option.{option_map_or}
 use Rattle.std.proofs.lemmas.Option.{same_Some, slice_get_within, get_or_from_slice_get, slice_get-get_or}
 use Rattle.std.proofs.lemmas.List.FromFn.{length-range_with_len, get_or-range_with_len}
 use Rattle.std.proofs.lemmas.Bool.{eqb-true, cases_lt, true_from_ne_false, and_parts, or_cases, or_right, not-false, both_ways, false_from_ne_true}
@@ -15,21 +16,22 @@ use Rattle.rip_plan.specs.declared.error.At.TheVariants.{LinkPrefix, Router, Rou
 use Rattle.rip_plan.specs.declared.addresses.Held.{Held}
 use Rattle.rip_plan.specs.declared.draft.DraftPlace.{DraftPlace}
 use Rattle.rip_plan.specs.declared.draft.DraftInterface.{DraftInterface}
+use Rattle.rip_plan.specs.declared.parts.Interface.{Interface}
 use Rattle.rip_plan.specs.declared.parts.OwnPrefix.{OwnPrefix}
 use Rattle.rip_plan.specs.declared.parts.Seat.{Seat}
 use Rattle.rip_plan.specs.declared.parts.Seat.TheVariants as seats
 use Rattle.rip_plan.specs.Codes.{number_of_code}
 use Rattle.rip_plan.specs.Fault.{fault, ◌>>=◌}
 use Rattle.rip_plan.specs.Draft.{Sketch}
-use Rattle.rip_plan.specs.Passes.{first_clash, touched, touching, same_prefix, do_meet, is_same_link, have_common, are_twice, is_astray, is_bare, is_there, none_found, second_passes, spot_of, duplicate_in, twice_in, taken_address_in, bare_in, astray_in, first_bare}
-use Rattle.rip_plan.specs.Addresses.{have_one_address, held_from}
+use Rattle.rip_plan.specs.Passes.{first_clash, touched, touching, same_prefix, do_meet, is_same_link, have_common, are_twice, is_astray, is_bare, is_there, none_found, second_passes, spot_of, duplicate_in, twice_in, taken_address_in, bare_in, astray_in, first_bare, has_neighbours_gateway, held, is_neighbours, neighbours_gateway_in}
+use Rattle.rip_plan.specs.Addresses.{have_one_address}
 use Rattle.rip_plan.specs.Network.{Network, network_of_sketch}
-use Rattle.rip_plan.specs.Relations.{IsAttachedAt, IsInterface, IsPlace}
+use Rattle.rip_plan.specs.Relations.{HasAddress, IsAttachedAt, IsGatewayOfNeighbour, IsInterface, IsPlace}
 use Rattle.rip_plan.specs.PlanOf.{PlanOf}
 use Rattle.rip_plan.specs.PlanFaults.{pass_of, TableFault, IsAstray, IsClash, IsBare, IsSo, DoMeet, AreTwice, HasOneTwice, HaveOneAddress, Before, rank, position, place_spots, interface_spots}
-use Rattle.rip_plan.proofs.SketchPlanLemmas.{as_interface, interface_as, place_in, place_from, touch, touches, there_on, on_there}
-use Rattle.rip_plan.proofs.FindingLemmas.{Found, Finds, finds_in, bind_finds, before_trans, before_not, ranked}
-use Rattle.rip_plan.proofs.FaultRowLemmas.{IsAstrayAt, IsLast, IsOfTables, IsTold, told_finds, code_rows, pass_apart, later_rows, pass_rows}
+use Rattle.rip_plan.proofs.SketchPlanLemmas.{as_interface, interface_as, interface_in, place_in, place_from, touch, touches, there_on, on_there}
+use Rattle.rip_plan.proofs.FindingLemmas.{Found, Finds, bind_finds, before_trans, before_not, ranked}
+use Rattle.rip_plan.proofs.FaultRowLemmas.{IsAstrayAt, IsGatewayTakenAt, IsOfTables, IsTold, told_finds, code_rows, pass_apart, later_rows, pass_rows}
 use Rattle.rip_plan.proofs.HeldAddressLemmas.{address_held, first_held, held_address, held_at, held_order, held_in}
 use Rattle.rip_plan.proofs.OnePlanLemmas.{one_plan}
 use Rattle.rip_plan.proofs.PlanPartLemmas.{own_table}
@@ -39,10 +41,6 @@ use Rattle.rip_plan.proofs.ItemLemmas.{cases_option, any_at, any_finds, distinct
 use Rattle.rip_plan.proofs.NumberingLemmas.{numbered_once, once_distinct, same_is, same_from}
 use Rattle.rip_plan.proofs.ClashLemmas.{Clashes, FirstSo, Passes, first_clashing, first_passing, meeting_seen}
 use Rattle.rip_plan.proofs.TextLemmas.{TextLaws}
-
--- the addresses of all interfaces
-abbrev held : List DraftInterface → List (List ℕ) → List Held
-held interfaces also = held_from 0 (map (λ i. i.interface) interfaces) also
 
 -- ---- an address stands at an interface
 
@@ -265,6 +263,48 @@ module _ (s : Sketch) where
       let off : is_there s.interfaces r l ≡ false = false_from_ne_true (is_there s.interfaces r l) (λ there. none (there_on s r l there)) in
       (d, at, ap (is_astray s.interfaces) (sym same) ∙ rw (h.says, h.router, off) refl)
 
+  -- an own prefix whose gateway is a neighbour's address
+  gateway_own : (seat : Seat) → has_neighbours_gateway s.interfaces (held s.interfaces s.also) seat ≡ true
+      → (own : OwnPrefix) × (a : ℕ) × (seat ≡ seats.Own own) × (own.via ≡ Some a) × (list_any (is_neighbours s.interfaces own.router a) (held s.interfaces s.also) ≡ true)
+  gateway_own seat h = grind arith
+
+  gateway_gives : (k : ℕ) (d : DraftPlace) → slice_get s.places k ≡ Some d → has_neighbours_gateway s.interfaces (held s.interfaces s.also) d.seat ≡ true → IsGatewayOfNeighbour (network_of_sketch s) k
+  gateway_gives k d at h =
+      let n = network_of_sketch s in
+      let (p, place, prefix) = place_from s k d at in
+      let (own, a, seat, via, some) = gateway_own d.seat h in
+      let (m, x, there, test) = any_finds (is_neighbours s.interfaces own.router a) (held s.interfaces s.also) some in
+      let (same, rest) = and_parts (x.address == a) _ test in
+      let (other, here) = and_parts _ (is_there s.interfaces own.router x.link) rest in
+      let has : HasAddress n x.interface x.link x.address = held_address n x.interface x.link x.address m there in
+      let (draft, its, is) = interface_in s x.interface has.1.interface has.1.listed in
+      record {
+        prefix = p;
+        router = own.router;
+        gateway = a;
+        own = record { own = own; place = subst (IsPlace n k p) seat place; router = refl; says = via };
+        link = x.link;
+        here = there_on s own.router x.link here;
+        neighbour = draft.interface.router;
+        other = grind (arith, nat_tests);
+        interface = x.interface;
+        cost = draft.interface.cost;
+        there = interface_as s x.interface draft draft.interface.router x.link its refl (ap (λ (i : Interface). i.link) is ∙ has.1.link);
+        has = subst (HasAddress n x.interface x.link) (eqb-true x.address a same) has;
+      }
+
+  gateway_takes : (k : ℕ) → IsGatewayOfNeighbour (network_of_sketch s) k
+      → (d : DraftPlace) × (slice_get s.places k ≡ Some d) × (has_neighbours_gateway s.interfaces (held s.interfaces s.also) d.seat ≡ true)
+  gateway_takes k g =
+      let n = network_of_sketch s in
+      let (d, at, prefix, same) = place_in s k g.prefix (seats.Own g.own.own) g.own.place in
+      let (m, there) = address_held n g.interface g.link g.gateway g.has in
+      let (x, its, router, link) = as_interface s g.interface g.neighbour g.link g.cost g.there in
+      let here = on_there s g.router g.link g.here in
+      let taken : is_neighbours s.interfaces g.router g.gateway (record { interface = g.interface; link = g.link; address = g.gateway }) ≡ true = grind (arith, nat_tests, g.other) in
+      let some = any_at (is_neighbours s.interfaces g.router g.gateway) (held s.interfaces s.also) m _ there taken in
+      (d, at, ap (has_neighbours_gateway s.interfaces (held s.interfaces s.also)) (sym same) ∙ rw (g.own.says, g.own.router) some)
+
   bare_gives : (k : ℕ) → is_bare s.interfaces k ≡ true → (i l c : ℕ) → IsInterface (network_of_sketch s) i k l c → ⊥
   bare_gives k h i l c is =
       let (x, at, router, link) = as_interface s i k l c is in
@@ -371,40 +411,65 @@ module _ (laws : TextLaws) (document : Members) (links routers : List Data) (s :
           record { k = k; x = x; at = at; so = clashes; stands = seen ∙ ap (λ (y : DraftInterface). y.at) same ∙ stands }
 
   -- own prefixes
+  own_spot : (place : At) (k p : ℕ) (own : OwnPrefix) → IsPlace (network_of_sketch s) k p (seats.Own own) → slice_get (place_spots links routers) k ≡ Some place → (r j : ℕ) × (place ≡ RouterOwn r j)
+  own_spot place k p own its at =
+      let t = own_table document (network_of_sketch s) plan k p own its in
+      (1 + t.r, suc t.j, same_Some place (RouterOwn (1 + t.r) (suc t.j)) (sym at ∙ ap (λ (l : List At). slice_get l k) (sym spots) ∙ t.spot))
+
   astray_same : (place : At) → IsSo (IsAstray (network_of_sketch s)) (place_spots links routers) place ↔ IsAstrayAt document links routers place
   astray_same (RouterOwn r j) = in_plan (λ n. IsSo (IsAstray n) (place_spots links routers) (RouterOwn r j))
-  astray_same place = (
-    λ (k, at, (p, r, l, h, none)).
-        let t = own_table document (network_of_sketch s) plan k p h.own h.place in
-        let is : place ≡ RouterOwn (1 + t.r) (suc t.j) = same_Some place (RouterOwn (1 + t.r) (suc t.j)) (sym at ∙ ap (λ (l : List At). slice_get l k) (sym spots) ∙ t.spot) in
-        absurd cc,
-    λ f. absurd f,
-  )
+  astray_same place = (λ (k, at, (p, r, l, h, none)). absurd (let is = (own_spot place k p h.own h.place at).2 in cc), λ f. absurd f)
 
-  astrays_find : Finds (IsLast document links routers) (code_rows 5 codes.UnknownLink) (none_found codes.UnknownLink (astray_in s.interfaces s.places))
-  astrays_find =
-      let test = λ (p : DraftPlace). is_astray s.interfaces p.seat in
-      pass_finds (IsLast document links routers) 5 codes.UnknownLink (Passes test) (λ (p : DraftPlace). p.at) s.places (find test s.places) (first_passing test s.places)
+  -- what one pass over the own prefixes finds
+  owns_find : (F : Found → Type 0) (n : ℕ) (c : PlanCode) (test : DraftPlace → Bool) (Is : ℕ → Type 0)
+      → ((k : ℕ) (d : DraftPlace) → slice_get s.places k ≡ Some d → test d ≡ true → Is k)
+      → ((k : ℕ) → Is k → (d : DraftPlace) × (slice_get s.places k ≡ Some d) × (test d ≡ true))
+      → ((place : At) → IsSo Is (place_spots links routers) place ↔ F (in_pass n c place))
+      → Finds F (code_rows n c) (none_found c (option_map (λ (p : DraftPlace). p.at) (find test s.places)))
+  owns_find F n c test Is gives takes same =
+      pass_finds F n c (Passes test) (λ (p : DraftPlace). p.at) s.places (find test s.places) (first_passing test s.places)
       (λ k m x y less h g. inr (place_ahead links routers k m x.at y.at less (place_at k x h) (place_at m y g)))
-      (λ place c. ((astray_same place).0 (c.k, place_at c.k c.x c.at ∙ ap (λ (p : At). Some p) c.stands, astray_gives s c.k c.x c.at c.so), refl, refl))
+      (λ place stood. (same place).0 (stood.k, place_at stood.k stood.x stood.at ∙ ap (λ (p : At). Some p) stood.stands, gives stood.k stood.x stood.at stood.so))
       (λ place f.
-      let (k, spot, its) = (astray_same place).1 f.0 in
+      let (k, spot, its) = (same place).1 f in
       let (d, at, stands) = at_place k place spot in
-      let (e, there, passes) = astray_takes s k its in
-      let same : e ≡ d = same_Some e d (sym there ∙ at) in
-      record { k = k; x = d; at = at; so = ap test (sym same) ∙ passes; stands = stands })
+      let (e, there, passes) = takes k its in
+      let one : e ≡ d = same_Some e d (sym there ∙ at) in
+      record { k = k; x = d; at = at; so = ap test (sym one) ∙ passes; stands = stands })
+
+  gateway_same : (place : At) → IsSo (IsGatewayOfNeighbour (network_of_sketch s)) (place_spots links routers) place ↔ IsGatewayTakenAt document links routers place
+  gateway_same (RouterOwn r j) = in_plan (λ n. IsSo (IsGatewayOfNeighbour n) (place_spots links routers) (RouterOwn r j))
+  gateway_same place = (λ (k, at, g). absurd (let is = (own_spot place k g.prefix g.own.own g.own.place at).2 in cc), λ f. absurd f)
+
+  gateways_find : Finds (IsOfTables document links routers) (code_rows 4 codes.DuplicateAddress) (none_found codes.DuplicateAddress (neighbours_gateway_in s.interfaces s.also s.places))
+  gateways_find =
+      owns_find (IsOfTables document links routers) 4 codes.DuplicateAddress (λ (p : DraftPlace). has_neighbours_gateway s.interfaces (held s.interfaces s.also) p.seat)
+      (IsGatewayOfNeighbour (network_of_sketch s)) (gateway_gives s) (gateway_takes s)
+      (λ place. (λ so. inr (inl ((gateway_same place).0 so, refl, refl)), λ f. (gateway_same place).1 (taken_of_tables place f)))
+    where
+      taken_of_tables : (place : At) → IsOfTables document links routers (in_pass 4 codes.DuplicateAddress place) → IsGatewayTakenAt document links routers place
+      taken_of_tables place f = grind arith
+
+  astrays_find : Finds (IsOfTables document links routers) (code_rows 6 codes.UnknownLink) (none_found codes.UnknownLink (astray_in s.interfaces s.places))
+  astrays_find =
+      owns_find (IsOfTables document links routers) 6 codes.UnknownLink (λ (p : DraftPlace). is_astray s.interfaces p.seat)
+      (IsAstray (network_of_sketch s)) (astray_gives s) (astray_takes s)
+      (λ place. (λ so. inr (inr ((astray_same place).0 so, refl, refl)), λ f. (astray_same place).1 (astray_of_tables place f)))
+    where
+      astray_of_tables : (place : At) → IsOfTables document links routers (in_pass 6 codes.UnknownLink place) → IsAstrayAt document links routers place
+      astray_of_tables place f = grind arith
 
   -- routers
   bare_clear : (place : At) → TableFault document links routers codes.NoInterface place → (r : ℕ) × (place ≡ Router r) × IsBare (network_of_sketch s) r
   bare_clear (Router r) f = (r, refl, (in_plan (λ n. IsBare n r)).1 f)
   bare_clear place f = absurd f
 
-  bare_finds : Finds (IsTold document links routers) (code_rows 4 codes.NoInterface) (none_found codes.NoInterface (bare_in s.interfaces (length s.routers)))
+  bare_finds : Finds (IsTold document links routers) (code_rows 5 codes.NoInterface) (none_found codes.NoInterface (bare_in s.interfaces (length s.routers)))
   bare_finds =
       let test = is_bare s.interfaces in
       let numbers : List ℕ = range_with_len 0 (length s.routers) in
       rw (bare_found s.interfaces 0 (length s.routers))
-      (pass_finds (IsTold document links routers) 4 codes.NoInterface (Passes test) (λ (r : ℕ). Router (r + 1)) numbers (find test numbers) (first_passing test numbers)
+      (pass_finds (IsTold document links routers) 5 codes.NoInterface (Passes test) (λ (r : ℕ). Router (r + 1)) numbers (find test numbers) (first_passing test numbers)
       (λ k m x y less h g. inr (inr (refl, inl (omega (arith, (number_at (length s.routers) k x h).0, (number_at (length s.routers) m y g).0)))))
       (λ place t.
       let (number, within) = number_at (length s.routers) t.k t.x t.at in
@@ -414,27 +479,31 @@ module _ (laws : TextLaws) (document : Members) (links routers : List Data) (s :
       let bare = true_from_ne_false (test k) (λ off. bare_takes s k off none) in
       record { k = k; x = k; at = at_number (length s.routers) k within; so = bare; stands = ap Router (sym number) ∙ sym is }))
 
-  last_finds : Finds (IsOfTables document links routers) (code_rows 5 codes.UnknownLink) (none_found codes.UnknownLink (astray_in s.interfaces s.places))
-  last_finds =
-      finds_in (IsLast document links routers) (IsOfTables document links routers) (code_rows 5 codes.UnknownLink) (code_rows 5 codes.UnknownLink)
-      (none_found codes.UnknownLink (astray_in s.interfaces s.places))
-      (λ e f. inr f) (λ e row. row) take astrays_find
-    where
-      take : (o : Found) → code_rows 5 codes.UnknownLink o → IsOfTables document links routers o → IsLast document links routers o × code_rows 5 codes.UnknownLink o
-      take o h k = grind arith
+  -- one pass, and then those after it
+  then_passes : {A B : Type 0} (n : ℕ) (c : PlanCode) (passes : List (ℕ × PlanCode)) (r : Result A PlanError) (f : A → Result B PlanError) → ((o : Found) → later_rows passes o → n < o.pass)
+      → Finds (IsOfTables document links routers) (code_rows n c) r → ((x : A) → Finds (IsOfTables document links routers) (later_rows passes) (f x))
+      → Finds (IsOfTables document links routers) (later_rows ((n, c) ∷ passes)) (r >>= f)
+  then_passes n c passes r f later h rest =
+      bind_finds (IsOfTables document links routers) (code_rows n c) (later_rows passes) r f (λ e o row next. pass_apart e o (omega (arith, row.0, later o next))) h (λ x is. rest x)
 
-  -- one pass, and then those of the codes after it
-  then_passes : {A B : Type 0} (c : PlanCode) (cs : List PlanCode) (r : Result A PlanError) (f : A → Result B PlanError) → ((o : Found) → later_rows cs o → pass_of c < o.pass)
-      → Finds (IsTold document links routers) (code_rows (pass_of c) c) r → ((x : A) → Finds (IsOfTables document links routers) (later_rows cs) (f x))
-      → Finds (IsOfTables document links routers) (later_rows (c ∷ cs)) (r >>= f)
-  then_passes c cs r f later h rest =
-      bind_finds (IsOfTables document links routers) (code_rows (pass_of c) c) (later_rows cs) r f (λ e o row next. pass_apart e o (omega (arith, row.0, later o next)))
-      (told_finds document links routers (code_rows (pass_of c) c) r (λ o row. (row.0 ∙ ap pass_of (sym row.1), grind arith)) h) (λ x is. rest x)
+  -- what a pass finds that is the one of its code
+  told : {A : Type 0} (c : PlanCode) (r : Result A PlanError) → Finds (IsTold document links routers) (code_rows (pass_of c) c) r → Finds (IsOfTables document links routers) (code_rows (pass_of c) c) r
+  told c r h = told_finds document links routers (code_rows (pass_of c) c) r (λ o row. row.0 ∙ ap pass_of (sym row.1)) h
+
+  -- two passes as one
+  then_both : {A B C : Type 0} (F R : Found → Type 0) (r : Result A PlanError) (f : A → Result B PlanError) (h : B → Result C PlanError) → Finds F R (r >>= (λ x. f x >>= h)) → Finds F R (r >>= f >>= h)
+  then_both F R (Ok x) f h finds = finds
+  then_both F R (Err e) f h finds = finds
 
   pub passes_find : Finds (IsOfTables document links routers) pass_rows (second_passes s)
   unfolding second_passes
   passes_find =
-      then_passes codes.DuplicatePrefix (codes.TwiceOnLink ∷ codes.DuplicateAddress ∷ codes.NoInterface ∷ []) _ _ (λ o next. grind arith) duplicates_find (λ a.
-      then_passes codes.TwiceOnLink (codes.DuplicateAddress ∷ codes.NoInterface ∷ []) _ _ (λ o next. grind arith) twice_find (λ b.
-      then_passes codes.DuplicateAddress (codes.NoInterface ∷ []) _ _ (λ o next. grind arith) addresses_find (λ c.
-      then_passes codes.NoInterface [] _ _ (λ o next. grind arith) bare_finds (λ d. last_finds))))
+      then_passes 1 codes.DuplicatePrefix ((2, codes.TwiceOnLink) ∷ (3, codes.DuplicateAddress) ∷ (4, codes.DuplicateAddress) ∷ (5, codes.NoInterface) ∷ []) _ _ (λ o next. grind arith)
+      (told codes.DuplicatePrefix _ duplicates_find) (λ a.
+      then_passes 2 codes.TwiceOnLink ((3, codes.DuplicateAddress) ∷ (4, codes.DuplicateAddress) ∷ (5, codes.NoInterface) ∷ []) _ _ (λ o next. grind arith) (told codes.TwiceOnLink _ twice_find) (λ b.
+      then_both (IsOfTables document links routers) (later_rows ((3, codes.DuplicateAddress) ∷ (4, codes.DuplicateAddress) ∷ (5, codes.NoInterface) ∷ []))
+      (none_found codes.DuplicateAddress (taken_address_in s.interfaces s.also)) (λ _. none_found codes.DuplicateAddress (neighbours_gateway_in s.interfaces s.also s.places))
+      (λ _. none_found codes.NoInterface (bare_in s.interfaces (length s.routers)) >>= (λ _. none_found codes.UnknownLink (astray_in s.interfaces s.places)))
+      (then_passes 3 codes.DuplicateAddress ((4, codes.DuplicateAddress) ∷ (5, codes.NoInterface) ∷ []) _ _ (λ o next. grind arith) (told codes.DuplicateAddress _ addresses_find) (λ c.
+      then_passes 4 codes.DuplicateAddress ((5, codes.NoInterface) ∷ []) _ _ (λ o next. grind arith) gateways_find (λ d.
+      then_passes 5 codes.NoInterface [] _ _ (λ o next. grind arith) (told codes.NoInterface _ bare_finds) (λ e. astrays_find))))))

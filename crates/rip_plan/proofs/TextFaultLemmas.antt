@@ -20,8 +20,8 @@ use Rattle.rip_plan.specs.Network.{network_of_sketch}
 use Rattle.rip_plan.specs.Passes.{second_passes}
 use Rattle.rip_plan.specs.PlanOf.{PlanOf}
 use Rattle.rip_plan.specs.PlanText.{empty, document_of, sketch_of_document, sketch_of}
-use Rattle.rip_plan.specs.PlanFaults.{IsText, HasTables, TableFault, FaultAt, AstrayAt, IsFound, IsFault, PlanFault, Before, pass_of, rank}
-use Rattle.rip_plan.proofs.FaultRowLemmas.{IsAstrayAt, IsOfTables, IsTold, covers, first_pass, first_rows, links_rows, links_sooner, pass_apart, pass_rows, routers_rows, table_rows, tables_low, told_finds}
+use Rattle.rip_plan.specs.PlanFaults.{IsText, HasTables, TableFault, FaultAt, AstrayAt, GatewayTakenAt, IsFound, IsFault, PlanFault, Before, pass_of, rank}
+use Rattle.rip_plan.proofs.FaultRowLemmas.{IsAstrayAt, IsGatewayTakenAt, IsOfTables, IsTold, covers, first_pass, first_rows, links_rows, links_sooner, pass_apart, pass_rows, routers_rows, table_rows, tables_low, told_finds}
 use Rattle.rip_plan.proofs.FindingLemmas.{Among, Asks, Found, Finds, InTurn, ask_guard, ask_rest, ask_wanted, bind_finds, bind_ok, finds_in, ranked, row_at, before_not, before_trans, before_or}
 use Rattle.rip_plan.proofs.TableFaultLemmas.{links_find, routers_find}
 use Rattle.rip_plan.proofs.OnePlanLemmas.{items_same}
@@ -39,7 +39,7 @@ module _ (laws : TextLaws) (document : Members) (links routers : List Data) (poi
       let F = IsOfTables document links routers in
       bind_finds F first_rows pass_rows (steps link_step 1 links (empty poison) >>= steps router_step 1 routers) (λ s. second_passes s >>= (λ _. Ok s))
       (λ e o h later. pass_apart e o (grind (arith, first_pass e h)))
-      (told_finds document links routers first_rows (steps link_step 1 links (empty poison) >>= steps router_step 1 routers) (λ o h. let (same, zero) = first_pass o h in (same, omega arith))
+      (told_finds document links routers first_rows (steps link_step 1 links (empty poison) >>= steps router_step 1 routers) (λ o h. (first_pass o h).0)
       (bind_finds (IsTold document links routers) links_rows routers_rows (steps link_step 1 links (empty poison)) (steps router_step 1 routers) links_sooner
       (links_find laws document links routers poison) (λ w is. routers_find laws document links routers poison w is)))
       (λ s taken.
@@ -63,9 +63,9 @@ IsTextFault bytes o = IsFound bytes o.pass o.error
 pass_same : (pass : ℕ) (c : PlanCode) (place : At) → pass ≡ pass_of c → record { pass = pass; error = fault c place } ≡ row_at c place
 pass_same pass c place same = ap (λ (n : ℕ). record { pass = n; error = fault c place }) same
 
--- a fault of a place where nothing is astray
-in_table : (bytes : List ℕ) (pass : ℕ) (c : PlanCode) (place : At) → (AstrayAt bytes place → ⊥) → IsFound bytes pass (fault c place) → FaultAt bytes c place
-in_table bytes pass c place h k = grind arith
+-- a fault of a place where no own prefix is
+in_table : (bytes : List ℕ) (pass : ℕ) (c : PlanCode) (place : At) → (GatewayTakenAt bytes place → ⊥) → (AstrayAt bytes place → ⊥) → IsFound bytes pass (fault c place) → FaultAt bytes c place
+in_table bytes pass c place g h k = grind arith
 
 -- ---- the version
 
@@ -91,6 +91,9 @@ module _ (bytes : List ℕ) (document : Members) (links routers : List Data) (ha
   pub one_fault : (c : PlanCode) (place : At) (other : Members) (ls rs : List Data) → HasTables bytes other ls rs → TableFault other ls rs c place → TableFault document links routers c place
   one_fault c place other ls rs h f = subst (λ (t : Members × List Data × List Data). TableFault t.0 t.1 t.2 c place) (one_tables other ls rs h) f
 
+  pub one_taken : (place : At) (other : Members) (ls rs : List Data) → HasTables bytes other ls rs → IsGatewayTakenAt other ls rs place → IsGatewayTakenAt document links routers place
+  one_taken place other ls rs h f = subst (λ (t : Members × List Data × List Data). IsGatewayTakenAt t.0 t.1 t.2 place) (one_tables other ls rs h) f
+
   pub one_astray : (place : At) (other : Members) (ls rs : List Data) → HasTables bytes other ls rs → IsAstrayAt other ls rs place → IsAstrayAt document links routers place
   one_astray place other ls rs h f = subst (λ (t : Members × List Data × List Data). IsAstrayAt t.0 t.1 t.2 place) (one_tables other ls rs h) f
 
@@ -111,17 +114,24 @@ module _ (laws : TextLaws) (bytes : List ℕ) (document : Members) (short : leng
     split_fault pass codes.Key Text (inl h) = inl (inr (h.1, inl (omega arith)))
     split_fault pass codes.Limit Text (inl h) = inl (inr (h.1, inl (omega arith)))
     split_fault pass c place (inl h) = inr (inl (one_fault bytes document links routers tables c place h.0.0 h.0.1 h.0.2 h.0.3 h.0.4, h.1))
-    split_fault pass c (RouterOwn r j) (inr h) = inr (inr (one_astray bytes document links routers tables (RouterOwn r j) h.0.0 h.0.1 h.0.2 h.0.3 h.0.4, h.1, h.2))
-    split_fault pass c place (inr h) = absurd h.0
+    split_fault pass c (RouterOwn r j) (inr (inl h)) = inr (inr (inl (one_taken bytes document links routers tables (RouterOwn r j) h.0.0 h.0.1 h.0.2 h.0.3 h.0.4, h.1, h.2)))
+    split_fault pass c (RouterOwn r j) (inr (inr h)) = inr (inr (inr (one_astray bytes document links routers tables (RouterOwn r j) h.0.0 h.0.1 h.0.2 h.0.3 h.0.4, h.1, h.2)))
+    split_fault pass c place (inr (inl h)) = absurd h.0
+    split_fault pass c place (inr (inr h)) = absurd h.0
 
     -- a fault of the tables is a fault of the bytes
+    whole_taken : (place : At) → IsGatewayTakenAt document links routers place → GatewayTakenAt bytes place
+    whole_taken (RouterOwn r j) h = (document, links, routers, tables, h)
+    whole_taken place h = absurd h
+
     whole_astray : (place : At) → IsAstrayAt document links routers place → AstrayAt bytes place
     whole_astray (RouterOwn r j) h = (document, links, routers, tables, h)
     whole_astray place h = absurd h
 
     whole : (o : Found) → IsOfTables document links routers o → IsTextFault bytes o
     whole o (inl h) = inl (whole_fault bytes document links routers tables o.error.code o.error.place h.0, h.1)
-    whole o (inr h) = inr (whole_astray o.error.place h.0, h.1, h.2)
+    whole o (inr (inl h)) = inr (inl (whole_taken o.error.place h.0, h.1, h.2))
+    whole o (inr (inr h)) = inr (inr (whole_astray o.error.place h.0, h.1, h.2))
 
   -- the rows of the text as a whole, and then those of the tables
   abbrev text_rows : List Found
@@ -139,17 +149,17 @@ module _ (laws : TextLaws) (bytes : List ℕ) (document : Members) (short : leng
   document_asks =
       ask_guard (not (is_version (get_member (codes_of "version") document))) _ (λ bad. inl ((document, text, version_told (get_member (codes_of "version") document) bad), refl))
       (λ good f.
-      let h = in_table bytes 0 codes.Version Version (λ a. a) f in
+      let h = in_table bytes 0 codes.Version Version (λ a. a) (λ a. a) f in
       let same = same_document bytes document h.0 reads h.1 in
       h.2 (ap (get_member (codes_of "version")) same ∙ version_is (get_member (codes_of "version") document) (not-false (is_version (get_member (codes_of "version") document)) good)))
       (λ good.
       ask_wanted (root_fields document) _ (λ none. inl ((document, text, root_not document none), refl))
       (λ r is f.
-      let h = in_table bytes 0 codes.Key Text (λ a. a) f in
+      let h = in_table bytes 0 codes.Key Text (λ a. a) (λ a. a) f in
       h.2 (subst IsRoot (sym (same_document bytes document h.0 reads h.1)) (root_table document r.0 r.1 r.2 is).shape))
       (λ r is.
       ask_guard (nat_lt 512 (length r.0) || nat_lt 128 (length r.1)) _ (λ more. inl (inr (document, r.0, r.1, tables r.0 r.1 r.2 is, (over r.0 r.1).0 more), refl))
-      (λ room f. limit_clear r.0 r.1 r.2 is room (in_table bytes 0 codes.Limit Text (λ a. a) f))
+      (λ room f. limit_clear r.0 r.1 r.2 is room (in_table bytes 0 codes.Limit Text (λ a. a) (λ a. a) f))
       (λ room.
       ask_rest (finds_in (IsOfTables document r.0 r.1) (IsTextFault bytes) table_rows table_rows
       (steps link_step 1 r.0 (empty r.2) >>= steps router_step 1 r.1 >>= (λ s. second_passes s >>= (λ _. Ok s))) (λ o t. whole r.0 r.1 r.2 is o t) (λ o here. here)
@@ -173,7 +183,8 @@ module _ (laws : TextLaws) (bytes : List ℕ) (document : Members) (short : leng
 
   all_covered : (o : Found) → IsTextFault bytes o → Among text_rows table_rows o
   all_covered o (inl h) = subst (Among text_rows table_rows) (sym (pass_same o.pass o.error.code o.error.place h.1)) (row_covered o.error.code o.error.place h.0)
-  all_covered o (inr h) = inr (inr (inr (inr (inr (inr (inr (inr (h.2, h.1))))))))
+  all_covered o (inr (inl h)) = inr (inr (inr (inr (inr (inr (inr (inl (h.2, h.1))))))))
+  all_covered o (inr (inr h)) = inr (inr (inr (inr (inr (inr (inr (inr (inr (h.2, h.1)))))))))
 
   all_find : Finds (IsTextFault bytes) (λ o. Unit {0}) (sketch_of_document document)
   all_find =
@@ -236,8 +247,10 @@ unfolding error_from
 from_rank bytes pass codes.Version Text (inl h) = absurd h.0.4
 from_rank bytes pass codes.Version Version (inl h) = ap (λ (d : PlanCode). fault d Version) (code_back codes.Version)
 from_rank bytes pass c Version (inl h) = absurd h.0.4
-from_rank bytes pass c Version (inr h) = absurd h.0
-from_rank bytes pass c Text (inr h) = absurd h.0
+from_rank bytes pass c Version (inr (inl h)) = absurd h.0
+from_rank bytes pass c Version (inr (inr h)) = absurd h.0
+from_rank bytes pass c Text (inr (inl h)) = absurd h.0
+from_rank bytes pass c Text (inr (inr h)) = absurd h.0
 from_rank bytes pass c place h = ap (λ (d : PlanCode). fault d place) (code_back c)
 
 rank_length : (pass : ℕ) (c : PlanCode) (place : At) → length (rank pass (fault c place)) ≡ 6

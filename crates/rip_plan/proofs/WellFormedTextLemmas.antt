@@ -15,9 +15,9 @@ use Rattle.rip_plan.specs.declared.error.At.TheVariants.{Text, Version, Link, Li
 use Rattle.rip_plan.specs.Fault.{fault}
 use Rattle.rip_plan.specs.Fields.{interface_fields, is_version, link_fields, own_fields, router_fields}
 use Rattle.rip_plan.specs.Network.{Network}
-use Rattle.rip_plan.specs.PlanFaults.{AreTwice, AstrayAt, DoMeet, FaultAt, HasNoAddress, HasOneTwice, HasTables, HasWrongAlso, HasWrongCost, HasWrongDirect, HaveOneAddress, IsAstray, IsBare, IsClash, IsFault, IsItem, IsNamedAgain, IsOutside, IsPast, IsSo, IsText, TableFault, also_spots, interface_spots, listed_spots, nth, place_spots}
+use Rattle.rip_plan.specs.PlanFaults.{AreTwice, AstrayAt, DoMeet, FaultAt, GatewayTakenAt, HasNoAddress, HasOneTwice, HasTables, HasWrongAlso, HasWrongCost, HasWrongDirect, HaveOneAddress, IsAstray, IsBare, IsClash, IsFault, IsItem, IsNamedAgain, IsOutside, IsPast, IsSo, IsText, TableFault, also_spots, interface_spots, listed_spots, nth, place_spots}
 use Rattle.rip_plan.specs.PlanOf.{AreAlsoOf, IsAddressOf, IsListedOf, IsNameOf, IsOnLink, IsPlanOfText, Matched, PlanOf, items_under}
-use Rattle.rip_plan.specs.Relations.{HasOwnAddress, IsConnected, IsInterface, IsLawful, IsOwnAt, IsPlace}
+use Rattle.rip_plan.specs.Relations.{HasOwnAddress, IsConnected, IsGatewayOfNeighbour, IsInterface, IsLawful, IsOwnAt, IsPlace}
 use Rattle.rip_plan.specs.WellFormed.{IsWellFormed}
 use Rattle.rip_plan.proofs.SpotLemmas.{also_items, under_item}
 use Rattle.rip_plan.proofs.LawfulPlanLemmas.{not_long}
@@ -26,7 +26,7 @@ use Rattle.rip_plan.proofs.MatchingLemmas.{matched_length, matched_right}
 use Rattle.rip_plan.proofs.OnePlanLemmas.{one_plan, text_same}
 use Rattle.rip_plan.proofs.TableLemmas.{cost_fits, direct_fits, gateway_fits}
 use Rattle.rip_plan.proofs.PlanPartLemmas.{attached_not, inside_not, known_not, HasInterface, HasOwn, also_counted, carrier_has, prefix_place, interfaces_count, item_under, its_interface, its_own, its_place, names_good, listed_count, places_count}
-use Rattle.rip_plan.proofs.TextFaultLemmas.{one_astray, one_fault, same_document, version_is, version_told, whole_fault}
+use Rattle.rip_plan.proofs.TextFaultLemmas.{one_astray, one_fault, one_taken, same_document, version_is, version_told, whole_fault}
 use Rattle.rip_plan.proofs.TextLemmas.{TextLaws}
 use Rattle.rip_plan.specs.Texts.{IsAddressText, IsPrefixText}
 use Rattle.rip_plan.specs.DocumentTables.{IsLinkTable, IsRouterTable, IsInterfaceTable, IsOwnTable, IsRoot}
@@ -214,6 +214,13 @@ module _ (laws : TextLaws) (bytes : List ℕ) (w : IsWellFormed bytes) where
   fault_not codes.Limit Text (inr (other, ls, rs, has, over)) = grind (arith, tables, over_not)
   fault_not c place f = table_not c place (one_fault bytes w.document w.plan.links w.plan.routers tables c place f.0 f.1 f.2 f.3 f.4)
 
+  gateway_not : (place : At) → GatewayTakenAt bytes place → ⊥
+  gateway_not (RouterOwn r j) f =
+      let its = one_taken bytes w.document w.plan.links w.plan.routers tables (RouterOwn r j) f.0 f.1 f.2 f.3 f.4 in
+      let (k, at, gateway) = of_plan (λ n. IsSo (IsGatewayOfNeighbour n) (place_spots w.plan.links w.plan.routers) (RouterOwn r j)) its in
+      w.lawful.gateway_no_neighbour k gateway
+  gateway_not place f = absurd f
+
   last_not : (place : At) → AstrayAt bytes place → ⊥
   last_not (RouterOwn r j) f =
       let its = one_astray bytes w.document w.plan.links w.plan.routers tables (RouterOwn r j) f.0 f.1 f.2 f.3 f.4 in
@@ -222,7 +229,11 @@ module _ (laws : TextLaws) (bytes : List ℕ) (w : IsWellFormed bytes) where
   last_not place f = absurd f
 
 pub is_faultless : (laws : TextLaws) (bytes : List ℕ) → IsWellFormed bytes → (e : PlanError) → IsFault bytes e → ⊥
-is_faultless laws bytes w e (pass, found) = elim found [ inl f ↦ fault_not laws bytes w e.code e.place f.0 | inr f ↦ last_not laws bytes w e.place f.0 ]
+is_faultless laws bytes w e (pass, found) = elim found [
+  | inl f ↦ fault_not laws bytes w e.code e.place f.0
+  | inr (inl f) ↦ gateway_not laws bytes w e.place f.0
+  | inr (inr f) ↦ last_not laws bytes w e.place f.0
+]
 
 -- ---- bytes that have no fault
 

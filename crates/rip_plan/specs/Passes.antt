@@ -8,6 +8,7 @@ use Rattle.rip_plan.specs.declared.error.PlanCode.TheVariants as codes
 use Rattle.rip_plan.specs.declared.error.PlanError.{PlanError}
 use Rattle.rip_plan.specs.declared.error.At.{At}
 use Rattle.rip_plan.specs.declared.error.At.TheVariants.{Router}
+use Rattle.rip_plan.specs.declared.addresses.Held.{Held}
 use Rattle.rip_plan.specs.declared.draft.DraftInterface.{DraftInterface}
 use Rattle.rip_plan.specs.declared.draft.DraftPlace.{DraftPlace}
 use Rattle.rip_plan.specs.declared.parts.Seat.{Seat}
@@ -85,12 +86,16 @@ twice_in interfaces = option_map (λ i. i.at) (first_clash are_twice [] interfac
 abbrev pub spot_of : List DraftInterface → ℕ → Option At
 spot_of interfaces i = option_map (λ x. x.at) (slice_get interfaces i)
 
+-- the addresses of all interfaces, with the further ones of each
+abbrev pub held : List DraftInterface → List (List ℕ) → List Held
+held interfaces also = held_from 0 (map (λ i. i.interface) interfaces) also
+
 -- where the first interface stands that has an address a second time on its link: after an earlier
 -- interface there, or after the same address of its own
 abbrev pub taken_address_in : List DraftInterface → List (List ℕ) → Option At
 taken_address_in interfaces also =
     option_and_then (λ h. spot_of interfaces h.interface)
-    (first_clash have_one_address [] (held_from 0 (map (λ i. i.interface) interfaces) also))
+    (first_clash have_one_address [] (held interfaces also))
 
 -- the router has an interface on the link
 abbrev pub is_there : List DraftInterface → ℕ → ℕ → Bool
@@ -108,15 +113,42 @@ abbrev pub astray_in : List DraftInterface → List DraftPlace → Option At
 astray_in interfaces places =
     option_map (λ p. p.at) (find (λ p. is_astray interfaces p.seat) places)
 
+-- the address is this one, and is another router's than r, on a link on which r has an interface
+abbrev pub is_neighbours : List DraftInterface → ℕ → ℕ → Held → Bool
+is_neighbours interfaces r a h =
+    h.address == a
+    && (option_map_or (λ i. not (i.interface.router == r)) (slice_get interfaces h.interface) false
+    && is_there interfaces r h.link)
+
+-- a router's own prefix whose gateway is one of these addresses, a neighbour's
+abbrev pub has_neighbours_gateway : List DraftInterface → List Held → Seat → Bool
+has_neighbours_gateway interfaces held (seats.Link l) = false
+has_neighbours_gateway interfaces held (seats.Own own) =
+    option_map_or (λ a. list_any (λ h. is_neighbours interfaces own.router a h) held) own.via false
+
+-- where the first such own prefix stands
+abbrev pub neighbours_gateway_in :
+    List DraftInterface → List (List ℕ) → List DraftPlace → Option At
+neighbours_gateway_in interfaces also places =
+    option_map (λ p. p.at)
+    (find (λ p. has_neighbours_gateway interfaces (held interfaces also) p.seat) places)
+
 -- where the first of so many routers stands that has no interface
 abbrev pub bare_in : List DraftInterface → ℕ → Option At
 bare_in interfaces routers = option_map (λ r. Router (r + 1)) (first_bare interfaces 0 routers)
 
--- the passes, one for each of these codes; UnknownLink is told in the first pass too
+-- the passes over addresses: those of interfaces, and then those of gateways
+abbrev pub address_passes : Sketch → Result (Unit {0}) PlanError
+address_passes s =
+    none_found codes.DuplicateAddress (taken_address_in s.interfaces s.also) >>= (λ _.
+    none_found codes.DuplicateAddress (neighbours_gateway_in s.interfaces s.also s.places))
+
+-- the passes, one for each of these codes, but two for addresses; UnknownLink is reported in the
+-- first pass over the text too
 unfoldable pub second_passes : Sketch → Result (Unit {0}) PlanError
 second_passes s =
     none_found codes.DuplicatePrefix (duplicate_in s.interfaces s.places) >>= (λ _.
     none_found codes.TwiceOnLink (twice_in s.interfaces) >>= (λ _.
-    none_found codes.DuplicateAddress (taken_address_in s.interfaces s.also) >>= (λ _.
+    address_passes s >>= (λ _.
     none_found codes.NoInterface (bare_in s.interfaces (length s.routers)) >>= (λ _.
     none_found codes.UnknownLink (astray_in s.interfaces s.places)))))

@@ -16,7 +16,7 @@ use Rattle.rip_plan.specs.DocumentTables.{IsInterfaceTable, IsLinkTable, IsOwnTa
 use Rattle.rip_plan.specs.Network.{Network}
 use Rattle.rip_plan.specs.PlanOf.{HasItems, HasText, IsCostOf, IsNameOf, PlanOf, items_in, items_under}
 use Rattle.rip_plan.specs.PlanText.{document_of}
-use Rattle.rip_plan.specs.Relations.{HasAddress, HasAddresses, IsInterface, IsAttachedAt, IsOn, IsPlace, Touches}
+use Rattle.rip_plan.specs.Relations.{HasAddress, HasAddresses, IsInterface, IsAttachedAt, IsGatewayOfNeighbour, IsOn, IsPlace, Touches}
 use Rattle.rip_plan.specs.Texts.{IsAddressText, IsNoAddress, IsNoPrefix, IsPrefixText}
 
 -- ---- the tables of a document and their items, numbered from 1
@@ -287,6 +287,14 @@ AstrayAt bytes (RouterOwn r j) =
     × IsSo (IsAstray n) (place_spots links routers) (RouterOwn r j))
 AstrayAt bytes at = ⊥
 
+-- an own prefix at this place has a neighbour's address as its gateway
+abbrev pub GatewayTakenAt : List ℕ → At → Type 0
+GatewayTakenAt bytes (RouterOwn r j) =
+    (document : Members) × (links routers : List Data) × HasTables bytes document links routers
+    × ((n : Network) × PlanOf document n
+    × IsSo (IsGatewayOfNeighbour n) (place_spots links routers) (RouterOwn r j))
+GatewayTakenAt bytes at = ⊥
+
 -- ---- the order
 
 -- the pass over the text that finds what stands in the table of codes
@@ -294,7 +302,7 @@ abbrev pub pass_of : PlanCode → ℕ
 pass_of codes.DuplicatePrefix = 1
 pass_of codes.TwiceOnLink = 2
 pass_of codes.DuplicateAddress = 3
-pass_of codes.NoInterface = 4
+pass_of codes.NoInterface = 5
 pass_of code = 0
 
 -- the order of the text: the text as a whole, links, routers; of each its number, the table before
@@ -310,11 +318,13 @@ position (RouterInterface r j) = 2 ∷ r ∷ 1 ∷ j ∷ []
 position (RouterOwn r j) = 2 ∷ r ∷ 2 ∷ j ∷ []
 
 -- the pass that finds a fault, the first one being 0: an own prefix whose link is not one of its
--- router's is found in the last pass, one whose link is not there at all in the first
+-- router's is found in the last pass, one whose link is not there at all in the first; one whose
+-- gateway is a neighbour's address is found after the interfaces that share an address
 abbrev pub IsFound : List ℕ → ℕ → PlanError → Type 0
 IsFound bytes pass e =
     (FaultAt bytes e.code e.place × (pass ≡ pass_of e.code))
-    ⊎ (AstrayAt bytes e.place × (e.code ≡ codes.UnknownLink) × (pass ≡ 5))
+    ⊎ ((GatewayTakenAt bytes e.place × (e.code ≡ codes.DuplicateAddress) × (pass ≡ 4))
+    ⊎ (AstrayAt bytes e.place × (e.code ≡ codes.UnknownLink) × (pass ≡ 6)))
 
 abbrev pub IsFault : List ℕ → PlanError → Type 0
 IsFault bytes e = (pass : ℕ) × IsFound bytes pass e

@@ -149,6 +149,22 @@ IsGatewayAt n k p r a = IsOwnWith n k p r (λ own. own.via ≡ Some a)
 abbrev pub IsGateway : Network → ℕ → ℕ → ℕ → Type 0
 IsGateway n r p a = (k : ℕ) × IsGatewayAt n k p r a
 
+-- place k is a router's own prefix whose gateway is an address of a neighbour: of another router's
+-- interface, on a link on which the owner has one
+pub record IsGatewayOfNeighbour (n : Network) (k : ℕ) : Type 0 where
+  pub prefix : ℕ
+  pub router : ℕ
+  pub gateway : ℕ
+  pub own : IsGatewayAt n k prefix router gateway
+  pub link : ℕ
+  pub here : IsOn n router link
+  pub neighbour : ℕ
+  pub other : neighbour ≢ router
+  pub interface : ℕ
+  pub cost : ℕ
+  pub there : IsInterface n interface neighbour link cost
+  pub has : HasAddress n interface link gateway
+
 -- link l has a list of what it exchanges
 abbrev pub HasList : Network → ℕ → Type 0
 HasList n l = slice_get n.lists l ≡ Some true
@@ -233,5 +249,6 @@ pub record IsLawful (n : Network) : Type 0 where
   pub own_cost_most : (k p r c : ℕ) → IsOwnAt n k p r c → c ≤ MOST_COST
   pub attached_there : (r p l : ℕ) → IsAttached n r p l → IsOn n r l
   pub gateway_known : (r p a : ℕ) → IsGateway n r p a → a < 2 ^ 32
+  pub gateway_no_neighbour : (k : ℕ) → IsGatewayOfNeighbour n k → ⊥
   pub carried_once : (k j p l : ℕ) → IsPlace n k p (Link l) → IsPlace n j p (Link l) → k ≡ j
   pub touched_once : (k j p r c d : ℕ) → Touches n k p r c → Touches n j p r d → k ≡ j

@@ -35,7 +35,9 @@ pub enum PlanCode {
     UnknownLink,
     /// An earlier interface of the router is on the link.
     TwiceOnLink,
-    /// An earlier interface on the link has one of the addresses, or the interface has one twice.
+    /// An earlier interface on the link has one of the addresses, or the interface has one twice; or
+    /// the gateway of an own prefix is an address of another router's interface on a link on which
+    /// the owner has one.
     DuplicateAddress,
     /// The link has prefixes, and none contains the address.
     OutsidePrefix,

@@ -1,11 +1,11 @@
 //! The passes over what was read of a plan: what clashes with something earlier.
 
-ghost use Rattle.std.specs.Prelude.{◌≡◌, ◌==◌, ◌+◌, ℕ, [], ◌∷◌, ◌++◌, if◌then◌else◌, length, map, nat_eq, IfOk, option_map};
+ghost use Rattle.std.specs.Prelude.{◌≡◌, ◌==◌, ◌+◌, ℕ, [], ◌∷◌, ◌++◌, if◌then◌else◌, find, length, map, nat_eq, IfOk, option_and_then, option_map};
 ghost use Rattle.std.specs.List.{list_any};
 ghost use Rattle.rip_wire.specs.Prefix.{Block};
 ghost use Rattle.rip_plan.specs.Draft.{sketch};
 ghost use Rattle.rip_plan.specs.Fault.{Gives};
-ghost use Rattle.rip_plan.specs.Passes.{astray_in, bare_in, duplicate_in, first_clash, have_common, none_found, same_prefix, second_passes, taken_address_in, touched, twice_in};
+ghost use Rattle.rip_plan.specs.Passes.{address_passes, astray_in, bare_in, duplicate_in, first_clash, have_common, none_found, same_prefix, second_passes, touched, twice_in};
 ghost use Rattle.rip_plan.specs.Passes as spec;
 ghost use Rattle.rip_plan.specs.Addresses.{have_one_address};
 ghost use Rattle.rip_plan.specs.Touches.{listed, seats_meet, touched_by};
@@ -173,19 +173,30 @@ fn first_taken(alloc: Global, held: &[Held]) -> Result<Option<Held>, AllocError>
     Ok(None)
 }
 
+/// The addresses of all interfaces, with the further ones of each.
+fn held_by_all(
+    alloc: Global,
+    interfaces: &[DraftInterface],
+    also: &[Vec<Address>],
+) -> Result<Vec<Held>, AllocError>
+    requires { length also.now ≡ length interfaces.now }
+    ensures { IfOk result (λ v. v.items ≡ spec.held interfaces.now (map (λ w. w.items) also.now)) }
+{
+    let parts = interfaces_of(alloc, interfaces)?;
+    all_addresses(alloc, parts.as_slice(), also)
+}
+
 /// Where the first interface stands that has an address a second time on its link.
 fn first_taken_address(
     alloc: Global,
     interfaces: &[DraftInterface],
-    also: &[Vec<Address>],
+    held: &[Held],
 ) -> Result<Option<At>, AllocError>
-    requires { length also.now ≡ length interfaces.now }
-    ensures { IfOk result (λ found.
-        found ≡ taken_address_in interfaces.now (map (λ w. w.items) also.now)) }
+    ensures { IfOk result (λ found. found
+        ≡ option_and_then (λ h. spec.spot_of interfaces.now h.interface)
+        (first_clash have_one_address [] held.now)) }
 {
-    let parts = interfaces_of(alloc, interfaces)?;
-    let held = all_addresses(alloc, parts.as_slice(), also)?;
-    match first_taken(alloc, held.as_slice())? {
+    match first_taken(alloc, held)? {
         Some(taken) => Ok(spot_of(interfaces, taken.interface)),
         None => Ok(None),
     }
@@ -251,6 +262,63 @@ fn first_astray(interfaces: &[DraftInterface], places: &[DraftPlace]) -> Option<
     None
 }
 
+/// Whether an address is this one, and is another router's than the given one, on a link on which
+/// the given one has an interface.
+fn is_neighbours(interfaces: &[DraftInterface], router: usize, address: Address, held: Held) -> bool
+    ensures { result ≡ spec.is_neighbours interfaces.now router address held }
+{
+    let holder = match interfaces.get(held.interface) {
+        Some(draft) => draft.interface.router,
+        None => return false,
+    };
+    held.address == address && holder != router && is_there(interfaces, router, held.link)
+}
+
+/// Whether one of these addresses is this one, and is another router's than the given one, on a
+/// link on which the given one has an interface.
+fn is_a_neighbours(
+    interfaces: &[DraftInterface],
+    router: usize,
+    address: Address,
+    held: &[Held],
+) -> bool
+    ensures { result ≡ list_any (λ h. spec.is_neighbours interfaces.now router address h) held.now }
+{
+    held.iter()
+        .any(|h| is_neighbours(interfaces, router, address, *h))
+}
+
+/// Whether a seat is a router's own prefix whose gateway is a neighbour's address.
+fn has_neighbours_gateway(interfaces: &[DraftInterface], held: &[Held], seat: Seat) -> bool
+    ensures { result ≡ spec.has_neighbours_gateway interfaces.now held.now seat }
+{
+    match seat {
+        Seat::Link(_) => false,
+        Seat::Own(own) => match own.via {
+            Some(gateway) => is_a_neighbours(interfaces, own.router, gateway, held),
+            None => false,
+        },
+    }
+}
+
+/// Where the first own prefix stands whose gateway is a neighbour's address.
+fn first_neighbours_gateway(
+    interfaces: &[DraftInterface],
+    held: &[Held],
+    places: &[DraftPlace],
+) -> Option<At>
+    ensures { result ≡ option_map (λ p. p.at)
+        (find (λ p. spec.has_neighbours_gateway interfaces.now held.now p.seat) places.now) }
+{
+    for k in 0..places.len() {
+        let place = places[k];
+        if has_neighbours_gateway(interfaces, held, place.seat) {
+            return Some(place.at);
+        }
+    }
+    None
+}
+
 /// The fault of a code where something was found.
 fn expect_none(code: PlanCode, found: Option<At>) -> Result<(), ReadError>
     ensures { Gives (λ done. done) result (none_found code found) }
@@ -259,6 +327,18 @@ fn expect_none(code: PlanCode, found: Option<At>) -> Result<(), ReadError>
         None => Ok(()),
         Some(at) => Err(fault(code, at)),
     }
+}
+
+/// The first fault of an address, if any: of an interface's, and then of a gateway.
+fn check_addresses(alloc: Global, draft: &Draft) -> Result<(), ReadError>
+    ensures { Gives (λ done. done) result (address_passes (sketch draft.now)) }
+{
+    let interfaces = draft.interfaces.as_slice();
+    let held = held_by_all(alloc, interfaces, draft.also.as_slice())?;
+    let taken = first_taken_address(alloc, interfaces, held.as_slice())?;
+    expect_none(PlanCode::DuplicateAddress, taken)?;
+    let gateway = first_neighbours_gateway(interfaces, held.as_slice(), draft.places.as_slice());
+    expect_none(PlanCode::DuplicateAddress, gateway)
 }
 
 /// The first fault that the second passes find, if any.
@@ -270,10 +350,7 @@ pub(crate) fn check_passes(alloc: Global, draft: &Draft) -> Result<(), ReadError
     let duplicate = first_duplicate(alloc, interfaces, draft.places.as_slice())?;
     expect_none(PlanCode::DuplicatePrefix, duplicate)?;
     expect_none(PlanCode::TwiceOnLink, first_twice(alloc, interfaces)?)?;
-    expect_none(
-        PlanCode::DuplicateAddress,
-        first_taken_address(alloc, interfaces, draft.also.as_slice())?,
-    )?;
+    check_addresses(alloc, draft)?;
     let bare = first_without_interface(interfaces, draft.routers.len());
     expect_none(PlanCode::NoInterface, bare)?;
     let astray = first_astray(interfaces, draft.places.as_slice());
