@@ -1,17 +1,18 @@
 -- Tests of tables that are written out, and what they tell: that they are shown, and which places hold.
-use Rattle.std.proofs.Common.{◌≡◌, ℕ, ◌+◌, ◌<◌, ◌≤◌, ◌⊎◌, inl, inr, min, unwrap_or, Bool, true, false, not, ◌&&◌, ◌||◌, ◌==◌, nat_le, nat_lt, IsTrue, length, Option, None, Some, slice_get, refl, sym, ◌∙◌, ap, subst, arith}
-use Rattle.std.proofs.lemmas.Bool.{and_parts, and_from, or_cases, or_left, or_right, not-true, not_from_false, both_ways, eqb-true, eqb-false, leb-true, ltb-true, eq-eqb, ne_eqb}
+use Rattle.std.proofs.Common.{◌≡◌, ℕ, ◌+◌, ◌<◌, ◌≤◌, ◌⊎◌, inl, inr, min, unwrap_or, Bool, true, false, not, ◌&&◌, ◌||◌, ◌==◌, nat_le, nat_lt, length, Option, None, Some, slice_get, refl, sym, ◌∙◌, ap, subst, arith}
+use Rattle.std.proofs.lemmas.Bool.{and_parts, and_from, or_cases, or_left, or_right, not-true, not_from_false, both_ways, eqb-true, eqb-false, false_from_ne_true, leb-true, ltb-true, eq-eqb, ne_eqb}
 use Rattle.rip_plan.specs.declared.parts.Seat.{Seat}
 use Rattle.rip_plan.specs.declared.parts.Seat.TheVariants.{Link, Own}
 use Rattle.rip_plan.specs.declared.parts.Place.{Place}
 use Rattle.rip_plan.specs.Network.{Network}
-use Rattle.rip_plan.specs.Relations.{HasList, Carries, IsAttached, IsAttachedAt, IsConnected, IsDirect, IsInterface, IsKept, IsPlace, Touches}
-use Rattle.rip_plan.proofs.PrefixNetworkLemmas.{same_network}
+use Rattle.rip_plan.specs.PrefixNetworks.{exchanges}
+use Rattle.rip_plan.specs.Relations.{Carries, IsAttached, IsAttachedAt, IsConnected, IsDirect, IsInterface, IsKept, IsLawful, IsPlace, Touches}
+use Rattle.rip_plan.proofs.PrefixNetworkLemmas.{exchange}
 use Rattle.rip_table.specs.State.{State}
-use Rattle.rip_check.specs.Networks.{block_at}
+use Rattle.rip_check.specs.Networks.{block_at, network_at}
 use Rattle.rip_check.specs.declared.way.Way.{Way}
 use Rattle.rip_check.specs.declared.way.Way.TheVariants.{Unreachable, Here, Over}
-use Rattle.rip_check.specs.Tables.{Tables, Route, FitsWay, IsSilent, MayHoldBack, MayShow, Offers, IsLeastOffer, IsHiddenRoute, FitsShown, Shows}
+use Rattle.rip_check.specs.Tables.{Tables, Route, FitsWay, IsSilent, MayHoldBack, MayShow, Offers, IsLeastOffer, IsHiddenRoute, FitsShown, FitsThere, IsHeard, IsQuiet, Shows}
 use Rattle.rip_check.specs.Settled.{IsChoice, IsGiven, Holds, HoldsAll}
 use Rattle.rip_check.proofs.CheckingLemmas.{each, each_gives, some, some_gives, some_holds, below, below_gives, when, when_gives, is_link, link_of}
 use Rattle.rip_check.specs.Metrics.{metric_at}
@@ -467,25 +468,89 @@ fits_gives n shown r p t ok =
           absurd (off f.0 f.1.link f.1.cost (record { interface = f.1; listed = f.2; router = eqb-true _ _ f.3; link = refl; cost = refl }));
     }
 
+-- ---- a router without an interface
+
+abbrev is_off : Network → ℕ → Bool
+is_off n r = each (λ i x. not (x.router == r)) n.interfaces
+
+off_gives : (n : Network) (r : ℕ) → is_off n r ≡ true → (i l c : ℕ) → IsInterface n i r l c → ⊥
+off_gives n r ok i l c its =
+    let test = each_gives (λ i x. not (x.router == r)) n.interfaces ok i its.interface its.listed in
+    both_ways (its.interface.router == r) (not-true (its.interface.router == r) test) (eq-eqb its.interface.router r its.router)
+
+abbrev is_no_way : Way → Bool
+is_no_way Unreachable = true
+is_no_way Here = false
+is_no_way (Over l) = false
+
+no_way_gives : (w : Way) → is_no_way w ≡ true → w ≡ Unreachable
+no_way_gives Unreachable ok = refl
+no_way_gives Here ok = cc ok
+no_way_gives (Over l) ok = cc ok
+
+-- it has not the prefix itself, and no route
+abbrev fits_lone : Network → ℕ → ℕ → Route → Bool
+fits_lone n r p t = (is_off n r && each_direct n r p (λ v. false)) && ((t.metric == 16) && (is_no_way t.way && fits_way n r p t.metric t.way))
+
+lone_gives : (n : Network) (shown : State) (r p : ℕ) (t : Route) → fits_lone n r p t ≡ true → FitsShown n shown r p t
+lone_gives n shown r p t ok =
+    let h = and_parts (is_off n r && each_direct n r p (λ v. false)) _ ok in
+    let where_ = and_parts (is_off n r) (each_direct n r p (λ v. false)) h.0 in
+    let what = and_parts (t.metric == 16) _ h.1 in
+    let way = and_parts (is_no_way t.way) (fits_way n r p t.metric t.way) what.1 in
+    let off = off_gives n r where_.0 in
+    record {
+      told = record { way_fits = fits_way_gives n r p t.metric t.way way.1; as_told = λ i l c its. absurd (off i l c its) };
+      hidden = λ i l c leaf. absurd (off i l c leaf.has);
+      lone = λ none. record {
+        own = λ c direct. absurd (no_direct n r p where_.1 c direct);
+        none = λ bare. (no_way_gives t.way way.0, eqb-true t.metric 16 what.0);
+      };
+    }
+
 -- ---- every place
 
-abbrev pub all_fit : Network → State → Tables → Bool
-all_fit n shown T = below (λ r. below (λ p. fits_at n shown r p (T r p)) (length shown.prefixes)) (length n.routers)
+-- nothing is shown where the prefix is not exchanged
+abbrev is_quiet : Network → State → ℕ → ℕ → Bool
+is_quiet n shown r p = each (λ i x. when ((x.router == r) && not (exchanges n (block_at shown.prefixes p) x.link)) (is_silent (metric_at shown i p))) n.interfaces
 
-pub shows : (n : Network) (shown : State) (T : Tables) → ((l : ℕ) → HasList n l → ⊥) → ((i : ℕ) → IsTrue (shown.heard i)) → all_fit n shown T ≡ true → Shows n shown T
-shows n shown T free heard ok = record {
-  heard = λ i r l c its. heard i;
-  fits = λ r p at known. record {
-    quiet = λ i l c its closed. absurd (closed (inl (free l)));
-    fits = subst (λ (m : Network). FitsShown m shown r p (T r p)) (sym (same_network n (block_at shown.prefixes p) free)) (fits_gives n shown r p (T r p)
-        (below_gives (λ p. fits_at n shown r p (T r p)) (length shown.prefixes) (below_gives (λ r. below (λ p. fits_at n shown r p (T r p)) (length shown.prefixes)) (length n.routers) ok r at) p known));
-  };
+quiet_gives : (n : Network) (shown : State) (r p : ℕ) → IsLawful n → is_quiet n shown r p ≡ true → IsQuiet n shown r p
+quiet_gives n shown r p laws ok i l c its closed =
+    let b = block_at shown.prefixes p in
+    let test = each_gives (λ i x. when ((x.router == r) && not (exchanges n b x.link)) (is_silent (metric_at shown i p))) n.interfaces ok i its.interface its.listed in
+    let shut : exchanges n b l ≡ false = false_from_ne_true (exchanges n b l) (λ t. closed ((exchange n laws b l).0 t)) in
+    let shut_here : exchanges n b its.interface.link ≡ false = rw its.link shut in
+    is_silent_gives (metric_at shown i p) (when_gives _ (is_silent (metric_at shown i p)) test (and_from _ _ (eq-eqb its.interface.router r its.router) (not_from_false _ shut_here)))
+
+-- what is shown of a place fits
+abbrev fits_there : Network → State → ℕ → ℕ → Route → Bool
+fits_there n shown r p t = (fits_at (network_at n shown.prefixes p) shown r p t || fits_lone (network_at n shown.prefixes p) r p t) && is_quiet n shown r p
+
+fits_there_gives : (n : Network) (shown : State) (r p : ℕ) (t : Route) → IsLawful n → fits_there n shown r p t ≡ true → FitsThere n shown r p t
+fits_there_gives n shown r p t laws ok =
+    let net = network_at n shown.prefixes p in
+    let h = and_parts (fits_at net shown r p t || fits_lone net r p t) (is_quiet n shown r p) ok in
+    record {
+      quiet = quiet_gives n shown r p laws h.1;
+      fits = elim (or_cases (fits_at net shown r p t) (fits_lone net r p t) h.0) [ inl fits ↦ fits_gives net shown r p t fits | inr lone ↦ lone_gives net shown r p t lone ];
+    }
+
+abbrev pub all_fit : Network → State → Tables → Bool
+all_fit n shown T = below (λ r. below (λ p. fits_there n shown r p (T r p)) (length shown.prefixes)) (length n.routers)
+
+pub shows : (n : Network) (shown : State) (T : Tables) → IsLawful n → IsHeard n shown → all_fit n shown T ≡ true → Shows n shown T
+shows n shown T laws heard ok = record {
+  heard = heard;
+  fits = λ r p at known.
+      fits_there_gives n shown r p (T r p) laws
+      (below_gives (λ p. fits_there n shown r p (T r p)) (length shown.prefixes) (below_gives (λ r. below (λ p. fits_there n shown r p (T r p)) (length shown.prefixes)) (length n.routers) ok r at) p known);
 }
 
 abbrev pub all_hold : Network → State → Tables → Bool
-all_hold n shown T = below (λ r. below (λ p. holds_at n shown r p (T r p)) (length shown.prefixes)) (length n.routers)
+all_hold n shown T = below (λ r. below (λ p. holds_at (network_at n shown.prefixes p) shown r p (T r p)) (length shown.prefixes)) (length n.routers)
 
-pub holds_all : (n : Network) (shown : State) (T : Tables) → ((l : ℕ) → HasList n l → ⊥) → all_hold n shown T ≡ true → HoldsAll n shown T
-holds_all n shown T free ok r p at known =
-    subst (λ (m : Network). Holds m shown r p (T r p)) (sym (same_network n (block_at shown.prefixes p) free)) (holds_gives n shown r p (T r p)
-    (below_gives (λ p. holds_at n shown r p (T r p)) (length shown.prefixes) (below_gives (λ r. below (λ p. holds_at n shown r p (T r p)) (length shown.prefixes)) (length n.routers) ok r at) p known))
+pub holds_all : (n : Network) (shown : State) (T : Tables) → all_hold n shown T ≡ true → HoldsAll n shown T
+holds_all n shown T ok r p at known =
+    holds_gives (network_at n shown.prefixes p) shown r p (T r p)
+    (below_gives (λ p. holds_at (network_at n shown.prefixes p) shown r p (T r p)) (length shown.prefixes)
+    (below_gives (λ r. below (λ p. holds_at (network_at n shown.prefixes p) shown r p (T r p)) (length shown.prefixes)) (length n.routers) ok r at) p known)

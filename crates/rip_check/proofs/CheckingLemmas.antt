@@ -1,5 +1,5 @@
 -- Tests of a network that is written out, and what they tell: its laws, what is shown of it, and which places hold.
-use Rattle.std.proofs.Common.{◌≡◌, ℕ, zero, suc, ◌+◌, ◌<◌, ◌≤◌, ◌^◌, ◌%◌, ◌/◌, ◌⊎◌, inl, inr, Bool, true, false, not, ◌&&◌, ◌||◌, ◌==◌, nat_le, nat_lt, List, [], ◌∷◌, length, map, sum, get_or, Option, None, Some, slice_get, refl, sym, ◌∙◌, ap, arith}
+use Rattle.std.proofs.Common.{◌≡◌, ℕ, zero, suc, ◌+◌, ◌<◌, ◌≤◌, ◌^◌, ◌%◌, ◌/◌, ◌⊎◌, inl, inr, Bool, true, false, not, ◌&&◌, ◌||◌, ◌==◌, nat_le, nat_lt, List, [], ◌∷◌, length, map, sum, get_or, Option, None, Some, slice_get, unwrap_or, refl, sym, ◌∙◌, ap, arith}
 use Rattle.std.specs.List.{Contains}
 use Rattle.std.specs.Str.{bytes_eq}
 use Rattle.std.proofs.lemmas.Bool.{and_parts, and_from, or_cases, or_left, or_right, not-true, both_ways, eqb-true, leb-true, ltb-true, eq-eqb}
@@ -139,9 +139,18 @@ is_inside n x = some (λ k q. is_link x.link q.seat && some (λ p b. (p == q.pre
 abbrev is_inside_prefixes : Network → ℕ → Interface → Bool
 is_inside_prefixes n i x = when (some (λ k q. is_link x.link q.seat) n.places) (is_inside n x)
 
+abbrev is_block : Block → Bool
+is_block b = nat_le b.prefix_len 32 && (nat_lt b.network (2 ^ 32) && ((b.network % size_of b.prefix_len) == 0))
+
+block_is : (b : Block) → is_block b ≡ true → IsBlock b
+block_is b ok =
+    let h0 = and_parts _ _ ok in
+    let h1 = and_parts _ _ h0.1 in
+    (leb-true _ _ h0.0, ltb-true _ _ h1.0, eqb-true _ _ h1.1)
+
 abbrev is_fit_prefix : Network → ℕ → Block → Bool
 is_fit_prefix n p b =
-    (nat_le b.prefix_len 32 && (nat_lt b.network (2 ^ 32) && ((b.network % size_of b.prefix_len) == 0)))
+    is_block b
     && each (λ q c. when (same_prefix b c) (p == q)) n.prefixes
 
 -- the router is on the link to which its prefix is attached, if it is
@@ -187,9 +196,12 @@ is_empty (x ∷ xs) = false
 abbrev has_no_more : Network → Bool
 has_no_more n = (length n.also == length n.interfaces) && (each (λ i also. is_empty also) n.also && nat_le (sum (map length n.also)) 1024)
 
--- no link has a list
-abbrev has_no_lists : Network → Bool
-has_no_lists n = ((length n.lists == length n.links) && is_empty n.listed) && each (λ l has_list. not has_list) n.lists
+-- what stands in the lists is of links that have one
+abbrev is_fit_item : Network → Listed → Bool
+is_fit_item n item = unwrap_or (slice_get n.lists item.link) false && is_block item.prefix
+
+abbrev has_lists : Network → Bool
+has_lists n = (length n.lists == length n.links) && (nat_le (length n.listed) 1024 && each (λ k item. is_fit_item n item) n.listed)
 
 abbrev has_each : Network → Bool
 has_each n =
@@ -200,7 +212,7 @@ has_each n =
 pub record Passes (n : Network) : Type 0 where
   pub counts : has_counts n ≡ true
   pub links : each (is_named_once n.links) n.links ≡ true
-  pub lists : has_no_lists n ≡ true
+  pub lists : has_lists n ≡ true
   pub routers : each (is_named_once n.routers) n.routers ≡ true
   pub interfaces : each (is_fit_interface n) n.interfaces ≡ true
   pub inside : each (is_inside_prefixes n) n.interfaces ≡ true
@@ -335,10 +347,8 @@ module _ (n : Network) (ok : Passes n) where
   -- prefixes
   block_parts : (p : ℕ) (b : Block) → IsPrefix n p b → IsBlock b × (each (λ q c. when (same_prefix b c) (p == q)) n.prefixes ≡ true)
   block_parts p b at =
-      let h = and_parts _ _ (each_gives (is_fit_prefix n) n.prefixes ok.prefixes p b at) in
-      let h0 = and_parts _ _ h.0 in
-      let h1 = and_parts _ _ h0.1 in
-      ((leb-true _ _ h0.0, ltb-true _ _ h1.0, eqb-true _ _ h1.1), h.1)
+      let h = and_parts (is_block b) _ (each_gives (is_fit_prefix n) n.prefixes ok.prefixes p b at) in
+      (block_is b h.0, h.1)
 
   prefixes_differ : (p q : ℕ) (b : Block) → IsPrefix n p b → IsPrefix n q b → p ≡ q
   prefixes_differ p q b at there =
@@ -395,22 +405,24 @@ module _ (n : Network) (ok : Passes n) where
       single x zero (suc k) a f g = cc g
       single x (suc j) k a f g = cc f
 
-  none_listed : (l : ℕ) (b : Block) → IsListed n l b → ⊥
-  none_listed l b h = none n.listed (and_parts _ _ (and_parts _ _ ok.lists).0).1 h.number h.item h.listed
-    where
-      none : (xs : List Listed) → is_empty xs ≡ true → (k : ℕ) (x : Listed) → slice_get xs k ≡ Some x → ⊥
-      none [] e k x at = cc at
-      none (y ∷ ys) e k x at = cc e
+  list_parts : (length n.lists ≡ length n.links) × (length n.listed ≤ 1024) × (each (λ k item. is_fit_item n item) n.listed ≡ true)
+  list_parts =
+      let h = and_parts (length n.lists == length n.links) _ ok.lists in
+      let g = and_parts (nat_le (length n.listed) 1024) _ h.1 in
+      (eqb-true _ _ h.0, leb-true _ _ g.0, g.1)
 
-  pub free : (l : ℕ) → HasList n l → ⊥
-  free l has = let clash : false ≡ true = each_gives (λ l has_list. not has_list) n.lists (and_parts _ _ ok.lists).1 l true has in cc clash
-
-  few_listed : length n.listed ≤ 1024
-  few_listed = none n.listed (and_parts _ _ (and_parts _ _ ok.lists).0).1
+  -- an item of a list
+  its_list : (l : ℕ) (b : Block) → IsListed n l b → HasList n l × IsBlock b
+  its_list l b h =
+      let t = and_parts (unwrap_or (slice_get n.lists h.item.link) false) (is_block h.item.prefix) (each_gives (λ k item. is_fit_item n item) n.listed list_parts.2 h.number h.item h.listed) in
+      let has : slice_get n.lists h.item.link ≡ Some true = flag (slice_get n.lists h.item.link) t.0 in
+      let block = block_is h.item.prefix t.1 in
+      (rw h.link at has, rw h.prefix at block)
     where
-      none : (xs : List Listed) → is_empty xs ≡ true → length xs ≤ 1024
-      none [] e = omega arith
-      none (y ∷ ys) e = cc e
+      flag : (o : Option Bool) → unwrap_or o false ≡ true → o ≡ Some true
+      flag None e = cc e
+      flag (Some true) e = refl
+      flag (Some false) e = cc e
 
   pub lawful : NamesTested → IsLawful n
   lawful tested =
@@ -427,10 +439,10 @@ module _ (n : Network) (ok : Passes n) where
         few_interfaces = leb-true _ _ others.0;
         few_also = leb-true _ _ (and_parts _ _ (and_parts _ _ ok.also).1).1;
         few_places = leb-true _ _ others.1;
-        few_listed = few_listed;
-        list_of_each = eqb-true _ _ (and_parts _ _ (and_parts _ _ ok.lists).0).0;
-        listed_known = λ l b h. absurd (none_listed l b h);
-        listed_is = λ l b h. absurd (none_listed l b h);
+        few_listed = list_parts.1;
+        list_of_each = list_parts.0;
+        listed_known = λ l b h. (its_list l b h).0;
+        listed_is = λ l b h. (its_list l b h).1;
         link_named = named n.links ok.links tested;
         router_named = named n.routers ok.routers tested;
         link_names_differ = names_differ n.links ok.links;
@@ -461,6 +473,7 @@ module _ (n : Network) (ok : Passes n) where
         own_cost_most = λ k p r c h. rw h.says at (own_fits k p h.own h.place).2;
         attached_there = attached_there;
         gateway_known = λ r p a h. absurd (let told : tells_none (Some a) ≡ true = rw h.1.says at (own_fits h.0 p h.1.own h.1.place).4 in cc told);
+        gateway_no_neighbour = λ k g. absurd (let told : tells_none (Some g.gateway) ≡ true = rw g.own.says at (own_fits k g.prefix g.own.own g.own.place).4 in cc told);
         carried_once = carried_once;
         touched_once = touched_once;
       }

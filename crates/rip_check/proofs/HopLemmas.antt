@@ -212,13 +212,13 @@ module _ (n : Network) (laws : IsLawful n) (b : Block) where
             (ap (λ (z : Interface). z.link) one, ap (λ (z : Interface). z.address) one)
       ]
 
-  address_was : (j l a : ℕ) → HasAddress (network_for n b) j l a → HasAddress n j l a
+  pub address_was : (j l a : ℕ) → HasAddress (network_for n b) j l a → HasAddress n j l a
   address_was j l a (addresses, h, listed) =
       let (x, at, same) = get_seen (interface_where (exchanges n b) n) n.interfaces j _ h.listed in
       let parts = same_parts x h.interface same in
       (addresses, record { interface = x; listed = at; link = parts.0 ∙ h.link; also = h.also; further = h.further; all = h.all ∙ ap (λ (y : ℕ). y ∷ h.also) (sym parts.1) }, listed)
 
-  address_stays : (j l a : ℕ) → HasAddress n j l a → HasAddress (network_for n b) j l a
+  pub address_stays : (j l a : ℕ) → HasAddress n j l a → HasAddress (network_for n b) j l a
   address_stays j l a (addresses, h, listed) =
       let moved = interface_where (exchanges n b) n h.interface in
       let parts = same_parts h.interface moved refl in

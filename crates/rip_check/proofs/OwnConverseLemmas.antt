@@ -48,7 +48,7 @@ module _ (n : Network) (told : State) (t : OwnTables) (plan : IsLawful n) (are :
     where
       hop_case : (h : NextHop) → HopGoesRight (net p) p r (route_at t r p).metric h → ⊥
       hop_case (Over l) goes = goes.2.3.goes_on kept
-      hop_case (Via a) goes = goes.3.1.3.goes_on kept
+      hop_case (Via a) goes = goes.path.1.3.goes_on kept
 
   -- a router is mute on the link to which it has the prefix attached
   mute_there : (s p l : ℕ) → s < length n.routers → p < length t.prefixes → (route_at t s p).metric < 16 → IsAttached (net p) s p l → IsMute (net p) t s l p
@@ -82,8 +82,8 @@ module _ (n : Network) (told : State) (t : OwnTables) (plan : IsLawful n) (are :
       (u : ℕ) × (hops : List Hop) × IsPath (net p) p s (record { link = l; to = u } ∷ hops) (route_at t s p).metric
   path_over s p l (Over k) over goes = rw over at goes
   path_over s p l (Via a) over goes =
-      let e : goes.0 ≡ l = over.1 goes.0 (goes.1, goes.2) in
-      (goes.1, goes.3.0, rw e at goes.3.1)
+      let e : goes.link ≡ l = over.1 goes.link (goes.neighbour, goes.has) in
+      (goes.neighbour, goes.path.0, rw e at goes.path.1)
 
   -- a router that is next on a least path is not mute on the link
   loud : (r l c s p : ℕ) → r < length n.routers → p < length t.prefixes → HasCost (net p) r l c → MayHop (net p) p r l s →
@@ -130,8 +130,17 @@ module _ (n : Network) (told : State) (t : OwnTables) (plan : IsLawful n) (are :
       let o = offered r l goes.0 p goes.1 at known small goes.2 in
       (o.0, (goes.0, o.1))
   hop_given r p at known small (Via a) goes =
-      let o = offered r goes.0 goes.1 p goes.3.0 at known small goes.3.1 in
-      (o.0, (goes.0, goes.1, goes.2, o.1))
+      let o = offered r goes.link goes.neighbour p goes.path.0 at known small goes.path.1 in
+      record {
+        takes = o.0;
+        link = goes.link;
+        neighbour = goes.neighbour;
+        has = goes.has;
+        offer = o.1;
+        holders = λ l s holder.
+            let (k, its, path) = goes.holders l s holder in
+            (k, its, (offered r k s p path.0 at known small path.1).1);
+      }
 
   -- the metric is a choice
   chosen : (r p : ℕ) → r < length n.routers → p < length t.prefixes → (route_at t r p).metric < 16 → (hops : List Hop) → IsPath (net p) p r hops (route_at t r p).metric →

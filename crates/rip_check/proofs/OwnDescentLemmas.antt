@@ -33,7 +33,7 @@ module _ (n : Network) (told : State) (t : OwnTables) (plan : IsLawful n) (are :
     where
       hop_case : (h : NextHop) → IsHopGiven (net p) told r p (route_at t r p).metric h → ⊥
       hop_case (Over l) given = given.0 kept
-      hop_case (Via a) given = given.0 kept
+      hop_case (Via a) given = given.takes kept
 
   -- a router is mute on the link to which it has the prefix attached
   mute_there : (s p l : ℕ) → s < length n.routers → p < length t.prefixes → (route_at t s p).metric < 16 → IsAttached (net p) s p l → IsMute (net p) t s l p
@@ -98,14 +98,22 @@ module _ (n : Network) (told : State) (t : OwnTables) (plan : IsLawful n) (are :
   hop_right r p at known small (Over l) given =
       let path = path_by r l given.1.0 p at known small given.0 given.1.1 in
       (given.1.0, path.0, path.1)
-  hop_right r p at known small (Via a) given = (given.1.0, given.1.1, given.1.2, path_by r given.1.0 given.1.1 p at known small given.0 given.1.3)
+  hop_right r p at known small (Via a) given = record {
+    link = given.link;
+    neighbour = given.neighbour;
+    has = given.has;
+    path = path_by r given.link given.neighbour p at known small given.takes given.offer;
+    holders = λ l s holder.
+        let (k, its, offer) = given.holders l s holder in
+        (k, its, path_by r k s p at known small given.takes offer);
+  }
 
   -- who gives a router its metric over a link over which it sends
   giver : (s l p : ℕ) (h : NextHop) → IsOver (net p) s p h l → IsHopGiven (net p) told s p (route_at t s p).metric h → (u : ℕ) × Offers (net p) told s l u p (route_at t s p).metric
   giver s l p (Over k) over given = rw over at given.1
   giver s l p (Via a) over given =
-      let e : given.1.0 ≡ l = over.1 given.1.0 (given.1.1, given.1.2) in
-      (given.1.1, rw e at given.1.3)
+      let e : given.link ≡ l = over.1 given.link (given.neighbour, given.has) in
+      (given.neighbour, rw e at given.offer)
 
   -- no neighbour to which a path may go is a better way, though it may tell nothing there
   near : (r l c s p : ℕ) → r < length n.routers → p < length t.prefixes → HasCost (net p) r l c → MayHop (net p) p r l s →

@@ -1,5 +1,5 @@
 -- Walks over the routers' own tables come down, and end where the prefix is.
-use Rattle.std.proofs.Common.{ℕ, ◌<◌, ◌≤◌, Contains, List, [], ◌∷◌, ◌++◌, length, refl, arith}
+use Rattle.std.proofs.Common.{ℕ, ◌<◌, ◌≤◌, inl, inr, Contains, List, [], ◌∷◌, ◌++◌, length, arith}
 use Rattle.rip_plan.specs.Network.{Network}
 use Rattle.rip_plan.specs.Relations.{IsLawful}
 use Rattle.rip_plan.specs.PrefixNetworks.{IsNetwork}
@@ -11,11 +11,12 @@ use Rattle.rip_routes.specs.declared.next_hop.NextHop.TheVariants.{Over, Via}
 use Rattle.rip_check.specs.Networks.{block_at, network_at}
 use Rattle.rip_check.specs.OwnTells.{IsToldBy}
 use Rattle.rip_check.specs.OwnSettled.{IsHopGiven, OwnHoldsAll}
-use Rattle.rip_check.specs.OwnWalks.{EachOwnCanGoOn, EachOwnEndsThere, EachOwnGoesOn, EachOwnHasWay, EachOwnIsShort, IsOwnWalk, Means, OwnGoesTo, OwnPacketsArrive}
+use Rattle.rip_check.specs.Tables.{Offers}
+use Rattle.rip_check.specs.OwnWalks.{EachOwnCanGoOn, EachOwnEndsThere, EachOwnGoesOn, EachOwnHasWay, EachOwnIsShort, IsOwnWalk, LeadsTo, OwnGoesTo, OwnPacketsArrive}
 use Rattle.rip_check.proofs.OwnRouteLemmas.{route_is}
 use Rattle.rip_check.proofs.OwnOfferLemmas.{own_offer_below}
 
-module _ (n : Network) (told : State) (t : OwnTables) (plan : IsLawful n) (are : AreOwnTables t) (by : IsToldBy n t told) where
+module _ (n : Network) (told : State) (t : OwnTables) (plan : IsLawful n) (are : AreOwnTables t) (by : IsToldBy n t told) (holds : OwnHoldsAll n told t) where
   -- the network of a prefix, and the laws that it keeps
   abbrev net : ℕ → Network
   net p = network_at n t.prefixes p
@@ -23,12 +24,19 @@ module _ (n : Network) (told : State) (t : OwnTables) (plan : IsLawful n) (are :
   its : (p : ℕ) → IsNetwork (net p)
   its p = prefix_network n plan (block_at t.prefixes p)
 
+  -- to whom a next hop leads that gives the metric, it is offered by
+  offered : (r p s m : ℕ) (h : NextHop) → IsHopGiven (net p) told r p m h → LeadsTo (net p) told r p m h s → (l : ℕ) × Offers (net p) told r l s p m
+  offered r p s m (Over l) given leads = (l, leads)
+  offered r p s m (Via a) given (inl (l, holder)) = let (k, its, offer) = given.holders l s holder in (k, offer)
+  offered r p s m (Via a) given (inr (l, has, offer)) = (l, offer)
+
   -- the next router is known, and its metric is less
   next : (p r s : ℕ) → r < length n.routers → p < length t.prefixes → (route_at t r p).metric < 16 → OwnGoesTo n told t p r s → (s < length n.routers) × ((route_at t s p).metric < (route_at t r p).metric)
   next p r s at known small g =
-      let s_at = (its p).neighbour_known r g.link s at g.offer.neighbour in
-      let e = own_offer_below n told t by r g.link s p (route_at t r p).metric s_at known g.offer small in
-      let least = (its p).cost_least g.offer.here.0 r g.link g.offer.cost g.offer.here.1 in
+      let (l, o) = offered r p s (route_at t r p).metric g.hop ((holds r p at known).given.hops g.hop g.listed) g.leads in
+      let s_at = (its p).neighbour_known r l s at o.neighbour in
+      let e = own_offer_below n told t by r l s p (route_at t r p).metric s_at known o small in
+      let least = (its p).cost_least o.here.0 r l o.cost o.here.1 in
       (s_at, omega (arith, e.0, least))
 
   ends_from : (p r : ℕ) (rest : List ℕ) → r < length n.routers → p < length t.prefixes → (route_at t r p).metric < 16 → EachOwnGoesOn n told t p r rest →
@@ -67,23 +75,22 @@ module _ (n : Network) (told : State) (t : OwnTables) (plan : IsLawful n) (are :
   more p z s [] walk step = (walk.0, walk.1, (step, tt))
   more p z s (r ∷ before) walk step = (walk.0, walk.1, more_from p z s r before walk.2 step)
 
-  module _ (holds : OwnHoldsAll n told t) where
-    -- whom a next hop means that gives the metric
-    step_by : (p z : ℕ) (h : NextHop) → Contains (route_at t z p).hops h → IsHopGiven (net p) told z p (route_at t z p).metric h → (l s : ℕ) × Means (net p) z p h l s × OwnGoesTo n told t p z s
-    step_by p z (Over l) listed given = (l, given.1.0, refl, record { hop = Over l; listed = listed; link = l; means = refl; offer = given.1.1 })
-    step_by p z (Via a) listed given = (given.1.0, given.1.1, given.1.2, record { hop = Via a; listed = listed; link = given.1.0; means = given.1.2; offer = given.1.3 })
+  -- to whom a next hop leads that gives the metric
+  led : (p z m : ℕ) (h : NextHop) → IsHopGiven (net p) told z p m h → (s : ℕ) × LeadsTo (net p) told z p m h s
+  led p z m (Over l) given = given.1
+  led p z m (Via a) given = (given.neighbour, inr (given.link, given.has, given.offer))
 
-    has_way : EachOwnHasWay n told t
-    has_way p z before known walk = (route_is t are z p).way (last p z before known walk).1
+  has_way : EachOwnHasWay n told t
+  has_way p z before known walk = (route_is t are z p).way (last p z before known walk).1
 
-    goes_on : EachOwnCanGoOn n told t
-    goes_on p z before h known walk listed =
-        let at = last p z before known walk in
-        let (l, s, means, step) = step_by p z h listed ((holds z p at.0 known).given.hops h listed) in
-        (l, s, means, more p z s before walk step)
+  goes_on : EachOwnCanGoOn n told t
+  goes_on p z before h known walk listed =
+      let at = last p z before known walk in
+      let (s, leads) = led p z (route_at t z p).metric h ((holds z p at.0 known).given.hops h listed) in
+      (s, leads, more p z s before walk (record { hop = h; listed = listed; leads = leads }))
 
-    there : EachOwnEndsThere n told t
-    there p z before known walk here = (holds z p (last p z before known walk).0 known).given.here here
+  there : EachOwnEndsThere n told t
+  there p z before known walk here = (holds z p (last p z before known walk).0 known).given.here here
 
-    pub own_arrive : OwnPacketsArrive n told t
-    own_arrive = record { short = short; has_way = has_way; go_on = goes_on; there = there }
+  pub own_arrive : OwnPacketsArrive n told t
+  own_arrive = record { short = short; has_way = has_way; go_on = goes_on; there = there }

@@ -295,8 +295,8 @@ module _ (n : Network) (shown : State) (T : Tables) (plan : IsLawful n) (shows :
   way_wrong r p m (Over l) wrong way (inl h) = absurd (cc h.0)
   way_wrong r p m (Over l) wrong way (inr h) = by_hop h.1.hop (one_hop (IsOver l) h.1.hop h.1.number h.1.listed) h.1.wrong
     where
-      by_hop : (h : NextHop) → IsOver l ≡ h → IsWrongHop n r p h wrong → wrong ≡ wrongs.Over l
-      by_hop h is at = subst (λ (x : NextHop). IsWrongHop n r p x wrong) (sym is) at
+      by_hop : (h : NextHop) → IsOver l ≡ h → IsWrongHop n told r p m h wrong → wrong ≡ wrongs.Over l
+      by_hop h is at = subst (λ (x : NextHop). IsWrongHop n told r p m x wrong) (sym is) at
 
   choice_there : (r p v : ℕ) → IsLeastChoice (network_at n told.prefixes p) told r p v → IsLeastChoice (net p) told r p v
   choice_there r p v least = subst (λ (b : List Block). IsLeastChoice (network_at n b p) told r p v) (by.prefixes ∙ tells.prefixes) least

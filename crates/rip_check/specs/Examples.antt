@@ -2,6 +2,7 @@
 use Rattle.std.specs.Prelude.{ℕ, zero, suc, ◌+◌, ◌*◌, ◌/◌, ◌%◌, ◌==◌, nat_lt, min, true, false, if◌then◌else◌, List, [], ◌∷◌, ◌++◌, Option, None, Some, option_and_then, unwrap_or, length, replicate, slice_get, slice_index_or, codes}
 use Rattle.rip_wire.specs.Prefix.{Block, block}
 use Rattle.rip_plan.specs.declared.parts.Interface.{Interface}
+use Rattle.rip_plan.specs.declared.parts.Listed.{Listed}
 use Rattle.rip_plan.specs.declared.parts.OwnPrefix.{OwnPrefix}
 use Rattle.rip_plan.specs.declared.parts.Seat.{Seat}
 use Rattle.rip_plan.specs.declared.parts.Seat.TheVariants.{Link, Own}
@@ -306,3 +307,67 @@ chain_tables r p = chain_route r
 abbrev pub down_from : ℕ → List ℕ
 down_from zero = zero ∷ []
 down_from (suc n) = suc n ∷ down_from n
+
+-- ---- Two holders of one address: a router on two links, on each of which another router has the
+-- same address; only the second of these has the prefix
+
+abbrev pub two_holders : Network
+two_holders = record {
+  links = codes "m" ∷ codes "n" ∷ [];
+  lists = replicate 2 false;
+  listed = [];
+  routers = codes "f" ∷ codes "g1" ∷ codes "g2" ∷ [];
+  interfaces =
+      interface 0 0 (octets 10 6 0 1) 1 ∷ interface 0 1 (octets 10 6 0 1) 1
+      ∷ interface 1 0 (octets 10 5 0 1) 1 ∷ interface 2 1 (octets 10 5 0 1) 1 ∷ [];
+  also = one_each 4;
+  prefixes = ten 9 ∷ [];
+  places = place 0 (own 2 1) ∷ [];
+}
+
+-- what they advertise by their own tables, where f has the prefix at metric 2 by that address, and
+-- g1 at metric 3 by the address of f
+abbrev pub two_holders_told : State
+two_holders_told = showing two_holders.prefixes
+    ((Some 2 ∷ []) ∷ (Some 2 ∷ []) ∷ (None ∷ []) ∷ (Some 1 ∷ []) ∷ [])
+
+-- ---- A hub with two branches: over each link the default route and the branch's own prefix alone
+-- are exchanged, beside the link's own
+
+-- the prefix stands in the list of link l
+abbrev pub listing : ℕ → Block → Listed
+listing l b = record { link = l; prefix = b }
+
+abbrev pub hub : Network
+hub = record {
+  links = codes "s1" ∷ codes "s2" ∷ [];
+  lists = true ∷ true ∷ [];
+  listed =
+      listing 0 (block 0 0) ∷ listing 0 (ten 11) ∷ listing 1 (block 0 0) ∷ listing 1 (ten 12) ∷ [];
+  routers = codes "h" ∷ codes "b1" ∷ codes "b2" ∷ [];
+  interfaces =
+      interface 0 0 (octets 10 1 0 1) 1 ∷ interface 0 1 (octets 10 2 0 1) 1
+      ∷ interface 1 0 (octets 10 1 0 2) 1 ∷ interface 2 1 (octets 10 2 0 2) 1 ∷ [];
+  also = one_each 4;
+  prefixes = ten 1 ∷ ten 2 ∷ block 0 0 ∷ ten 11 ∷ ten 12 ∷ [];
+  places = place 0 (Link 0) ∷ place 1 (Link 1) ∷ place 2 (own 0 1) ∷ place 3 (own 1 1)
+      ∷ place 4 (own 2 1) ∷ [];
+}
+
+-- the hub tells each branch the default route, and hears the branch's prefix
+abbrev pub hub_shown : State
+hub_shown = showing hub.prefixes (
+    (None ∷ None ∷ Some 1 ∷ Some 16 ∷ None ∷ []) ∷ (None ∷ None ∷ Some 1 ∷ None ∷ Some 16 ∷ [])
+    ∷ (None ∷ None ∷ Some 16 ∷ Some 1 ∷ None ∷ [])
+    ∷ (None ∷ None ∷ Some 16 ∷ None ∷ Some 1 ∷ []) ∷ []
+    )
+
+-- no branch has the other one's prefixes
+abbrev pub hub_tables : Tables
+hub_tables = tables (
+    (route 1 Here ∷ route 1 Here ∷ route 1 Here ∷ route 2 (Over 0) ∷ route 2 (Over 1) ∷ [])
+    ∷ (route 1 Here ∷ route 16 Unreachable ∷ route 2 (Over 0) ∷ route 1 Here
+    ∷ route 16 Unreachable ∷ [])
+    ∷ (route 16 Unreachable ∷ route 1 Here ∷ route 2 (Over 1) ∷ route 16 Unreachable
+    ∷ route 1 Here ∷ []) ∷ []
+    )

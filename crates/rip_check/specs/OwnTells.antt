@@ -20,6 +20,14 @@ pub record HasHop (n : Network) (r l s p a : ℕ) : Type 0 where
   pub neighbour : IsNeighbour n r l s
   pub has : (j : ℕ) × HasHopAt n j s l p a
 
+-- address a is neighbour s's own, of router r on link l: an address of its interface there
+pub record IsHolder (n : Network) (r l s a : ℕ) : Type 0 where
+  pub neighbour : IsNeighbour n r l s
+  pub interface : ℕ
+  pub cost : ℕ
+  pub there : IsInterface n interface s l cost
+  pub has : HasAddress n interface l a
+
 -- a neighbour of router r on link l has address a for prefix p
 abbrev pub IsHadOn : Network → ℕ → ℕ → ℕ → ℕ → Type 0
 IsHadOn n r p a l = (s : ℕ) × HasHop n r l s p a

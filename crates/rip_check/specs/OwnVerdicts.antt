@@ -8,8 +8,8 @@ use Rattle.rip_routes.specs.declared.next_hop.NextHop.{NextHop}
 use Rattle.rip_routes.specs.declared.next_hop.NextHop.TheVariants.{Over as IsOver, Via as IsVia}
 use Rattle.rip_check.specs.Firsts.{IsBefore, IsFirst}
 use Rattle.rip_check.specs.Networks.{network_at}
-use Rattle.rip_check.specs.OwnSettled.{AreRightTables, IsEachListed, IsHopGiven, OwnHolds}
-use Rattle.rip_check.specs.OwnTells.{HasHop, HasHopAt}
+use Rattle.rip_check.specs.OwnSettled.{AreRightTables, DoHoldersOffer, IsEachListed, IsHopGiven, OffersAsHolder, OwnHolds}
+use Rattle.rip_check.specs.OwnTells.{HasHop, HasHopAt, IsHolder}
 use Rattle.rip_check.specs.Settled.{IsLeastChoice}
 use Rattle.rip_check.specs.declared.own_verdict.OwnPlace.{OwnPlace}
 use Rattle.rip_check.specs.declared.own_verdict.Wrong.{Wrong}
@@ -32,13 +32,34 @@ pub record IsFirstHad (n : Network) (r p a l s : ℕ) : Type 0 where
   pub had : IsHadAt n r p a own across l s
   pub before : (i j k u : ℕ) → IsHadAt n r p a i j k u → IsBefore i j own across → ⊥
 
--- what is wrong with a next hop that does not give the metric: nobody has its address, or a
--- neighbour over its link, or that has the address, does not give it
-abbrev pub IsWrongHop : Network → ℕ → ℕ → NextHop → Wrong → Type 0
-IsWrongHop n r p (IsOver l) w = w ≡ Over l
-IsWrongHop n r p (IsVia a) w =
-    ((l s : ℕ) × IsFirstHad n r p a l s × (w ≡ Neighbour s l))
-    ⊎ (((l s : ℕ) → HasHop n r l s p a → ⊥) × (w ≡ Nobody a))
+-- interface i of router r is on link l, where address a is neighbour s's own, and s does not offer
+-- the metric on any link on which it is
+pub record IsLackingAt (n : Network) (told : State) (r p m a i l s : ℕ) : Type 0 where
+  pub here : (c : ℕ) × IsInterface n i r l c
+  pub holder : IsHolder n r l s a
+  pub lacks : OffersAsHolder n told r s p m a → ⊥
+
+-- neighbour s on link l is the first such, by the interfaces of router r
+pub record IsFirstLacking (n : Network) (told : State) (r p m a l s : ℕ) : Type 0 where
+  pub own : ℕ
+  pub lacking : IsLackingAt n told r p m a own l s
+  pub before : (i k u : ℕ) → i < own → IsLackingAt n told r p m a i k u → ⊥
+
+-- what is wrong with next hop a of router r: the first neighbour whose own address it is, in the
+-- network of the prefix, that does not offer the metric; where there is none, the first neighbour
+-- that has it in the plan; or nobody has it there
+abbrev pub IsWrongAddress : Network → State → ℕ → ℕ → ℕ → ℕ → Wrong → Type 0
+IsWrongAddress n told r p m a w =
+    ((l s : ℕ) × IsFirstLacking (network_at n told.prefixes p) told r p m a l s
+    × (w ≡ Neighbour s l))
+    ⊎ (DoHoldersOffer (network_at n told.prefixes p) told r p m a
+    × (((l s : ℕ) × IsFirstHad n r p a l s × (w ≡ Neighbour s l))
+    ⊎ (((l s : ℕ) → HasHop n r l s p a → ⊥) × (w ≡ Nobody a))))
+
+-- what is wrong with a next hop that does not give the metric: its link, or by its address
+abbrev pub IsWrongHop : Network → State → ℕ → ℕ → ℕ → NextHop → Wrong → Type 0
+IsWrongHop n told r p m (IsOver l) w = w ≡ Over l
+IsWrongHop n told r p m (IsVia a) w = IsWrongAddress n told r p m a w
 
 -- the first next hop of the route that does not give its metric, in the network of the prefix, is
 -- wrong in this way
@@ -51,7 +72,7 @@ pub record IsFirstWrongHop
   pub fails : IsHopGiven (network_at n told.prefixes p) told r p route.metric hop → ⊥
   pub before : (j : ℕ) (h : NextHop) → j < number → slice_get route.hops j ≡ Some h
       → IsHopGiven (network_at n told.prefixes p) told r p route.metric h
-  pub wrong : IsWrongHop n r p hop w
+  pub wrong : IsWrongHop n told r p route.metric hop w
 
 -- the first way of the route that does not give its metric is wrong in this way
 abbrev pub IsWrongWay : Network → State → ℕ → ℕ → OwnRoute → Wrong → Type 0

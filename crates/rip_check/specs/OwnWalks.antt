@@ -7,21 +7,23 @@ use Rattle.rip_routes.specs.OwnTables.{OwnTables, route_at}
 use Rattle.rip_routes.specs.declared.next_hop.NextHop.{NextHop}
 use Rattle.rip_routes.specs.declared.next_hop.NextHop.TheVariants.{Over, Via}
 use Rattle.rip_check.specs.Networks.{network_at}
-use Rattle.rip_check.specs.OwnTells.{HasHop}
+use Rattle.rip_check.specs.OwnTells.{HasHop, IsHolder}
 use Rattle.rip_check.specs.Tables.{Offers}
 
--- the next hop of router r for prefix p means neighbour s on link l
-abbrev pub Means : Network → ℕ → ℕ → NextHop → ℕ → ℕ → Type 0
-Means n r p (Over k) l s = k ≡ l
-Means n r p (Via a) l s = HasHop n r l s p a
+-- A packet of router r for prefix p can go to neighbour s by the next hop, where r has the metric:
+-- over a link, to any neighbour there that offers the metric; by an address, to any neighbour whose
+-- own it is, and to any that has it as gateway and offers the metric.
+abbrev pub LeadsTo : Network → State → ℕ → ℕ → ℕ → NextHop → ℕ → Type 0
+LeadsTo n told r p m (Over l) s = Offers n told r l s p m
+LeadsTo n told r p m (Via a) s =
+    ((l : ℕ) × IsHolder n r l s a)
+    ⊎ ((l : ℕ) × HasHop n r l s p a × Offers n told r l s p m)
 
--- a packet for p can go from r to s: one of r's next hops means s, and s offers r's metric
+-- a packet for p can go from r to s by one of r's next hops
 pub record OwnGoesTo (n : Network) (told : State) (t : OwnTables) (p r s : ℕ) : Type 0 where
   pub hop : NextHop
   pub listed : Contains (route_at t r p).hops hop
-  pub link : ℕ
-  pub means : Means (network_at n t.prefixes p) r p hop link s
-  pub offer : Offers (network_at n t.prefixes p) told r link s p (route_at t r p).metric
+  pub leads : LeadsTo (network_at n t.prefixes p) told r p (route_at t r p).metric hop s
 
 -- each router goes to the next
 abbrev pub EachOwnGoesOn : Network → State → OwnTables → ℕ → ℕ → List ℕ → Type 0
@@ -48,12 +50,12 @@ EachOwnHasWay n told t =
     → IsOwnWalk n told t p (before ++ z ∷ [])
     → ((route_at t z p).here ≡ true) ⊎ ((h : NextHop) × Contains (route_at t z p).hops h)
 
--- a walk goes on over any next hop of its last router, to a neighbour that the next hop means
+-- a walk goes on by any next hop of its last router, to a neighbour to which that leads
 abbrev pub EachOwnCanGoOn : Network → State → OwnTables → Type 0
 EachOwnCanGoOn n told t =
     (p z : ℕ) (before : List ℕ) (h : NextHop) → p < length t.prefixes
     → IsOwnWalk n told t p (before ++ z ∷ []) → Contains (route_at t z p).hops h
-    → (l s : ℕ) × Means (network_at n t.prefixes p) z p h l s
+    → (s : ℕ) × LeadsTo (network_at n t.prefixes p) told z p (route_at t z p).metric h s
     × IsOwnWalk n told t p (before ++ z ∷ s ∷ [])
 
 -- where the last router of a walk is its own way, it is on a link of the prefix, or owns it

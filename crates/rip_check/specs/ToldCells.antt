@@ -8,7 +8,7 @@ use Rattle.rip_plan.specs.Relations.{Exchanges, HasAddress, IsAttached, IsGatewa
 use Rattle.rip_table.specs.State.{State}
 use Rattle.rip_routes.specs.OwnTables.{OwnTables, route_at}
 use Rattle.rip_check.specs.Networks.{block_at, network_at}
-use Rattle.rip_check.specs.OwnTells.{HasHopAt, IsMute}
+use Rattle.rip_check.specs.OwnTells.{HasHopAt, IsHolder, IsMute}
 
 -- what a cell shows: nothing for 0, else its metric
 abbrev pub shown_by : ℕ → Option ℕ
@@ -71,6 +71,10 @@ pub record HasAddressAcross (n : Network) (r l a j : ℕ) : Type 0 where
   pub other : router ≢ r
   pub its : IsInterface n j router l cost
   pub has : HasAddress n j l a
+
+-- address a is neighbour s's own, of router r on link l, and no other neighbour's there
+abbrev pub IsOneHolder : Network → ℕ → ℕ → ℕ → ℕ → Type 0
+IsOneHolder n r l a s = IsHolder n r l s a × ((u : ℕ) → IsHolder n r l u a → u ≡ s)
 
 -- interface j is on link l and is not router r's, and its router has gateway a for its own prefix
 -- at place k

@@ -7,13 +7,14 @@ ghost use Rattle.rip_routes.specs.OwnTables.{route_at};
 ghost use Rattle.rip_check.specs.Cases.{At, ByPlan, network_of, plan_of, state_of, told_in};
 ghost use Rattle.rip_check.specs.Firsts.{IsFirstAt, IsFirstOf};
 ghost use Rattle.rip_check.specs.Metrics.{metric_at};
-ghost use Rattle.rip_check.specs.OwnSettled.{AreRightTables, EachOwnHolds, IsHopGiven, OwnHolds};
-ghost use Rattle.rip_check.specs.OwnTells.{HasHop, IsToldBy};
-ghost use Rattle.rip_check.specs.OwnVerdicts.{IsFirstHad, IsFirstWrongHop, IsNextUnlisted, IsOwnFailing, IsOwnSound, IsOwnVerdict, IsWrong, IsWrongHop};
+ghost use Rattle.rip_check.specs.OwnSettled.{AreRightTables, DoHoldersOffer, EachOwnHolds, IsAddressGiven, IsHopGiven, OffersAsHolder, OwnHolds};
+ghost use Rattle.rip_check.specs.OwnTells.{HasHop, IsHolder, IsToldBy};
+ghost use Rattle.rip_check.specs.OwnVerdicts.{IsFirstHad, IsFirstLacking, IsFirstWrongHop, IsNextUnlisted, IsOwnFailing, IsOwnSound, IsOwnVerdict, IsWrong, IsWrongAddress, IsWrongHop};
 ghost use Rattle.rip_check.specs.OwnWalks.{OwnPacketsArrive};
 ghost use Rattle.rip_check.specs.Settled.{IsChoice, IsLeastChoice};
 ghost use Rattle.rip_check.specs.Tables.{Offers};
 ghost use Rattle.rip_check.specs.Told.{told};
+ghost use Rattle.rip_check.specs.ToldCells.{AreMarks, IsOneHolder};
 
 use crate::case::Case;
 use crate::links::{NOTHING, fill, seen_at};
@@ -22,7 +23,7 @@ use crate::offers::least_choice;
 use crate::own_verdict::{OwnPlace, OwnVerdict, Wrong};
 use crate::places::{is_direct, is_offered};
 use crate::told_table::{first_across, holder_across, owner_across};
-use rip_plan::{Interface, MOST_LINKS, Plan};
+use rip_plan::{Interface, MOST_LINKS, MOST_ROUTERS, Plan};
 use rip_routes::{NextHop, RouteTables};
 use rip_table::Table;
 use rip_wire::Address;
@@ -48,23 +49,6 @@ fn first_had(plan: &Plan, router: usize, address: Address, prefix: usize) -> Opt
         }
     }
     None
-}
-
-/// What is wrong with a next hop that does not give its metric.
-fn wrong_hop(plan: &Plan, router: usize, hop: &NextHop, prefix: usize) -> Wrong
-    requires { router < length plan.now.routers }
-    ensures { IsWrongHop plan.now router prefix hop.now result }
-{
-    match hop {
-        NextHop::Over(link) => Wrong::Over(*link),
-        NextHop::Via(address) => match first_had(plan, router, *address, prefix) {
-            Some((link, neighbour)) => Wrong::Neighbour {
-                router: neighbour,
-                link,
-            },
-            None => Wrong::Nobody(*address),
-        },
-    }
 }
 
 /// Whether an interface across, if there is one, offers a metric over an interface of this cost.
@@ -132,8 +116,183 @@ fn is_offered_by<T: Table>(case: &Case<'_, T>, router: usize, address: Address, 
     false
 }
 
-/// Whether a neighbour that a next hop means offers a metric, the least choice of a router that
-/// does not keep the prefix.
+/// The neighbour on the link of an interface whose own address this is, if there is one, and
+/// whether it offers a metric there. A link that does not exchange the prefix has none.
+fn holder_over<T: Table>(
+    case: &Case<'_, T>,
+    own: Interface,
+    address: Address,
+    metric: u32,
+) -> Option<(usize, bool)>
+    requires router { own.router < length (network_of case.now).routers }
+    requires own { HasCost (plan_of case.now) own.router own.link own.cost }
+    ensures some { IfSome result (λ h.
+        IsOneHolder (network_of case.now) own.router own.link address h.0
+        × Decides h.1 (Offers (network_of case.now) (told_in case.now) own.router own.link h.0
+        case.now.prefix metric)) }
+    ensures none { IfNone result ((s : ℕ) →
+        IsHolder (network_of case.now) own.router own.link s address → ⊥) }
+{
+    case.lawful();
+    if !case.exchanges(own.link) {
+        return None;
+    }
+    match holder_across(case.plan, &own, address) {
+        Some(across) => {
+            let neighbour = case.plan.interface(across).router;
+            Some((
+                neighbour,
+                is_offered_from(case, own.cost, Some(across), metric),
+            ))
+        }
+        None => None,
+    }
+}
+
+/// Marks the neighbours that offer a metric on a link on which an address is their own, and answers
+/// whether each whose own it is offers the metric on each such link. None is marked before.
+fn mark_holders<T: Table>(
+    case: &Case<'_, T>,
+    router: usize,
+    address: Address,
+    metric: u32,
+    marks: &mut [bool],
+) -> bool
+    requires router { router < length (network_of case.now).routers }
+    requires size { length (plan_of case.now).routers ≤ length marks.old }
+    requires blank { AreMarks (λ s. ⊥) marks.old }
+    ensures marks { AreMarks (λ s. OffersAsHolder (network_of case.now) (told_in case.now) router s
+        case.now.prefix metric address) marks.new }
+    ensures each { result ≡ true → At case.now DoHoldersOffer router metric address }
+{
+    case.lawful();
+    let mut each = true;
+    let numbers = case.plan.of_router(router);
+    for i in numbers {
+        let own = case.plan.interface(*i);
+        match holder_over(case, own, address, metric) {
+            Some((neighbour, offers)) => {
+                if offers {
+                    marks[neighbour] = true;
+                } else {
+                    each = false;
+                }
+            }
+            None => {}
+        }
+    }
+    each
+}
+
+/// The first neighbour whose own address this is and that is not marked as offering a metric: the
+/// link and the neighbour, by the router's interfaces.
+fn first_unmarked<T: Table>(
+    case: &Case<'_, T>,
+    router: usize,
+    address: Address,
+    metric: u32,
+    marks: &[bool],
+) -> Option<(usize, usize)>
+    requires router { router < length (network_of case.now).routers }
+    requires size { length (plan_of case.now).routers ≤ length marks.now }
+    requires marks { AreMarks (λ s. OffersAsHolder (network_of case.now) (told_in case.now) router s
+        case.now.prefix metric address) marks.now }
+    ensures some { IfSome result (λ found.
+        At case.now IsFirstLacking router metric address found.0 found.1) }
+    ensures none { IfNone result (At case.now DoHoldersOffer router metric address) }
+{
+    case.lawful();
+    let numbers = case.plan.of_router(router);
+    for i in numbers {
+        let own = case.plan.interface(*i);
+        let link = own.link;
+        match holder_over(case, own, address, metric) {
+            Some((neighbour, _)) => {
+                if !marks[neighbour] {
+                    return Some((link, neighbour));
+                }
+            }
+            None => {}
+        }
+    }
+    None
+}
+
+/// The first neighbour whose own address this is that does not offer a metric on any link on which
+/// it is: the link and the neighbour, by the router's interfaces.
+fn first_lacking<T: Table>(
+    case: &Case<'_, T>,
+    router: usize,
+    address: Address,
+    metric: u32,
+) -> Option<(usize, usize)>
+    requires router { router < length (network_of case.now).routers }
+    ensures some { IfSome result (λ found.
+        At case.now IsFirstLacking router metric address found.0 found.1) }
+    ensures none { IfNone result (At case.now DoHoldersOffer router metric address) }
+{
+    case.lawful();
+    let mut marks = [false; MOST_ROUTERS];
+    if mark_holders(case, router, address, metric, &mut marks) {
+        return None;
+    }
+    first_unmarked(case, router, address, metric, &marks)
+}
+
+/// Whether next hop `address` gives a metric to a router that does not keep the prefix.
+fn is_address_given<T: Table>(
+    case: &Case<'_, T>,
+    router: usize,
+    address: Address,
+    metric: u32,
+) -> bool
+    requires router { router < length (network_of case.now).routers }
+    requires takes { IsKept (network_of case.now) router case.now.prefix → ⊥ }
+    ensures { Decides result (At case.now IsAddressGiven router metric address) }
+{
+    match first_lacking(case, router, address, metric) {
+        Some(_) => false,
+        None => is_offered_by(case, router, address, metric),
+    }
+}
+
+/// What is wrong with next hop `address`, where it does not give its metric.
+fn wrong_address<T: Table>(
+    case: &Case<'_, T>,
+    router: usize,
+    metric: u32,
+    address: Address,
+) -> Wrong
+    requires { router < length (network_of case.now).routers }
+    ensures { ByPlan case.now IsWrongAddress router metric address result }
+{
+    if let Some((link, neighbour)) = first_lacking(case, router, address, metric) {
+        return Wrong::Neighbour {
+            router: neighbour,
+            link,
+        };
+    }
+    match first_had(case.plan, router, address, case.prefix) {
+        Some((link, neighbour)) => Wrong::Neighbour {
+            router: neighbour,
+            link,
+        },
+        None => Wrong::Nobody(address),
+    }
+}
+
+/// What is wrong with a next hop that does not give its metric.
+fn wrong_hop<T: Table>(case: &Case<'_, T>, router: usize, metric: u32, hop: &NextHop) -> Wrong
+    requires { router < length (network_of case.now).routers }
+    ensures { ByPlan case.now IsWrongHop router metric hop.now result }
+{
+    match hop {
+        NextHop::Over(link) => Wrong::Over(*link),
+        NextHop::Via(address) => wrong_address(case, router, metric, *address),
+    }
+}
+
+/// Whether a next hop gives a metric, the least choice of a router that does not keep the prefix.
 fn is_hop_given<T: Table>(
     case: &Case<'_, T>,
     router: usize,
@@ -152,7 +311,7 @@ fn is_hop_given<T: Table>(
     }
     match hop {
         NextHop::Over(link) => is_offered(case, router, metric, *link),
-        NextHop::Via(address) => is_offered_by(case, router, *address, metric),
+        NextHop::Via(address) => is_address_given(case, router, *address, metric),
     }
 }
 
@@ -179,7 +338,7 @@ fn first_wrong_hop<T: Table, G: RouteTables>(
     let hops = tables.next_hops(router, case.prefix);
     for hop in hops {
         if !is_hop_given(case, router, keeps, metric, hop) {
-            return Some(wrong_hop(case.plan, router, hop, case.prefix));
+            return Some(wrong_hop(case, router, metric, hop));
         }
     }
     None

@@ -3,10 +3,13 @@
 
 ghost use Rattle.std.specs.Prelude.{[], ◌∷◌, None, Some};
 ghost use Rattle.rip_check.specs.Examples as net;
-ghost use Rattle.rip_check.specs.Examples.{IsSettledNetwork, IsUnsettledNetwork, chain, chain_shown, chain_tables, down_from, keeper_shown, keeper_tables, leaf_shown, leaf_tables, nowhere_shown, phantom_shown, phantom_tables, route, second_shown, second_tables, slope_shown, slope_tables, triangle_tables, two_exits_shown, two_exits_tables, with_leaf};
+ghost use Rattle.rip_check.specs.Examples.{IsSettledNetwork, IsUnsettledNetwork, chain, chain_shown, chain_tables, down_from, hub_shown, hub_tables, keeper_shown, keeper_tables, leaf_shown, leaf_tables, nowhere_shown, octets, phantom_shown, phantom_tables, route, second_shown, second_tables, slope_shown, slope_tables, triangle_tables, two_exits_shown, two_exits_tables, two_holders_told, with_leaf};
+ghost use Rattle.rip_check.specs.Networks.{network_at};
+ghost use Rattle.rip_check.specs.OwnSettled.{IsAddressGiven};
+ghost use Rattle.rip_check.specs.OwnVerdicts.{IsLackingAt};
 ghost use Rattle.rip_check.specs.Paths.{IsLeast, IsPath};
 ghost use Rattle.rip_check.specs.Settled.{Holds};
-ghost use Rattle.rip_check.specs.Tables.{FitsShown};
+ghost use Rattle.rip_check.specs.Tables.{FitsShown, Offers};
 ghost use Rattle.rip_check.specs.Walks.{IsWalk};
 ghost use Rattle.rip_check.specs.declared.way.Way.TheVariants.{Here, Over, Unreachable};
 
@@ -80,3 +83,21 @@ pub fn chains()
 {
     rip_wire::laws::names();
 }
+
+/// A hub that exchanges with each branch the default route and the branch's own prefix alone: it is
+/// settled, and the branches do not reach each other's prefixes.
+pub fn hub()
+    ensures settled { IsSettledNetwork net.hub hub_shown hub_tables }
+    ensures apart { IsLeast (network_at net.hub net.hub.prefixes 4) 4 1 16 }
+{
+    rip_wire::laws::names();
+}
+
+/// A next hop by an address that two neighbours have, each on another link. The second offers the
+/// metric, but a packet may go to the first as well, which does not. So the address does not give
+/// the metric, and the first is at fault.
+pub fn two_holders()
+    ensures offered { Offers net.two_holders two_holders_told 0 1 2 0 2 }
+    ensures lacks { IsLackingAt net.two_holders two_holders_told 0 0 2 (octets 10 5 0 1) 0 0 1 }
+    ensures refused { ¬ IsAddressGiven net.two_holders two_holders_told 0 0 2 (octets 10 5 0 1) }
+{}

@@ -4,8 +4,9 @@ use Rattle.std.proofs.lemmas.Bool.Decides.{not_from_Decides}
 use Rattle.std.proofs.lemmas.Option.{slice_get-get_or}
 use Rattle.rip_routes.specs.OwnTables.{route_at}
 use Rattle.rip_routes.specs.declared.next_hop.NextHop.{NextHop}
-use Rattle.rip_check.specs.Cases.{network_of, told_in}
+use Rattle.rip_check.specs.Cases.{network_of, plan_of, told_in}
 use Rattle.rip_check.specs.OwnSettled.{IsHopGiven}
+use Rattle.rip_check.specs.OwnVerdicts.{IsWrongHop}
 use Rattle.rip_check.proofs.own_audit.first_wrong_hop.Goals as goal
 
 pub returns-then-not-is_hop_given-clause-some : goal.returns-then-not-is_hop_given-clause-some
@@ -26,7 +27,7 @@ returns-then-not-is_hop_given-clause-some g c =
       before = λ j h less there.
           let there' : slice_get hops j ≡ Some h = rw c.next_hops-hops.ensures there in
           subst (λ (m : ℕ). IsHopGiven (network_of case) (told_in case) c.args.router case.prefix m h) c.requires.metric (c.loop-hop.invariant j h less there');
-      wrong = c.wrong_hop.ensures;
+      wrong = subst (λ (m : ℕ). IsWrongHop (plan_of case) (told_in case) c.args.router case.prefix m hop c.wrong_hop.result) c.requires.metric c.wrong_hop.ensures;
     }
 
 pub loop-hop-preserved : goal.loop-hop-preserved
