@@ -17,7 +17,7 @@ use Rattle.rip_capture.specs.declared.packet.Carried.TheVariants.{Cut as CutOff,
 use Rattle.rip_capture.specs.declared.error.CaptureCode.{CaptureCode}
 use Rattle.rip_capture.specs.declared.error.CaptureCode.TheVariants.{Magic, Cut, Version, LinkType as NoLinkType, Length, Interface, OldPacket, Read}
 use Rattle.rip_capture.specs.declared.reader.CaptureReader.{CaptureReader}
-use Rattle.rip_report.specs.CapturePackets.{EndsSo, Keeps, ended_at, ended_by}
+use Rattle.rip_report.specs.CapturePackets.{EndsSo, ended_at, ended_by}
 use Rattle.rip_report.specs.declared.captures.authentication.Authentication.{Authentication}
 use Rattle.rip_report.specs.declared.captures.authentication.Authentication.TheVariants.{AsSent}
 use Rattle.rip_report.specs.declared.captures.ending.Ending.TheVariants.{Refused as RefusedFile, Unread, Whole}
@@ -27,8 +27,6 @@ use Rattle.rip_report.specs.LineTimes.{AreShown, IsTimed, span_of, time_part}
 use Rattle.rip_report.specs.declared.captures.manner.Manner.{Manner}
 use Rattle.rip_report.specs.CaptureText.{AreCarriers, HasRoom, count_of, counted, counts_of, has_line, is_cut, is_datagram, is_elsewhere, is_fragment, is_long, is_malformed, is_mixed, is_other, is_timed, line_count, logged_line, mixed_count, omitted_of, one, packet_lines, such}
 use Rattle.rip_report.specs.LoggedDatagrams.{nothing_omitted}
-use Rattle.rip_capture.specs.Origins.{origin_in}
-use Rattle.rip_capture.specs.declared.first.FirstOrigin.{FirstOrigin}
 use Rattle.rip_report.specs.Selections.{AreLogged, Carrier, IsCarrier, IsLogged, Selection, first_behind, first_with}
 use Rattle.rip_report.specs.declared.captures.authentication.Omitted.{Omitted}
 use Rattle.rip_report.specs.declared.captures.logged.Logged.{Logged}
@@ -67,15 +65,11 @@ module _ {X : Type 0} where
 
 logged-snoc : (selection : Selection) (first : Option Frame) (cs : List Carrier) (c : Carrier) → AreLogged selection first cs → IsLogged selection (first_behind first cs) c.frame c.carried c.logged → AreLogged selection first (cs ++ c ∷ [])
 logged-snoc selection first [] c are is = (is, tt)
-logged-snoc selection first (d ∷ cs) c are is = (are.0, logged-snoc selection (first_with first d.frame d.carried) cs c are.1 is)
+logged-snoc selection first (d ∷ cs) c are is = (are.0, logged-snoc selection (first_with first d.frame d.logged) cs c are.1 is)
 
-pub first-snoc : (first : Option Frame) (cs : List Carrier) (c : Carrier) → first_behind first (cs ++ c ∷ []) ≡ first_with (first_behind first cs) c.frame c.carried
+pub first-snoc : (first : Option Frame) (cs : List Carrier) (c : Carrier) → first_behind first (cs ++ c ∷ []) ≡ first_with (first_behind first cs) c.frame c.logged
 first-snoc first [] c = refl
-first-snoc first (d ∷ cs) c = first-snoc (first_with first d.frame d.carried) cs c
-
--- nothing is kept of no packet
-pub keeps-none : (selection : Selection) (kept : FirstOrigin) → origin_in kept ≡ None → Keeps selection None (origin_in kept)
-keeps-none selection kept e = λ nothing. e
+first-snoc first (d ∷ cs) c = first-snoc (first_with first d.frame d.logged) cs c
 
 pub carriers-snoc : (how : Manner) (selection : Selection) (cs : List Carrier) (c : Carrier) → AreCarriers how selection cs → IsCarrier c → IsLogged selection (first_behind None cs) c.frame c.carried c.logged
     → IsTimed (is_timed how c.logged) c.frame c.time → AreCarriers how selection (cs ++ c ∷ [])

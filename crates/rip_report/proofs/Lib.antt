@@ -11,6 +11,7 @@ pub mod WatchRunLemmas
 pub mod EndLemmas
 pub mod ReportLemmas
 pub mod StopLemmas
+pub mod StepLemmas
 pub mod AcceptedLemmas
 pub mod DecodeLemmas
 pub mod TextLemmas

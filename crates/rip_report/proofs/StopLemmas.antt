@@ -9,9 +9,11 @@ use Rattle.rip_plan.specs.Relations.{IsLawful}
 use Rattle.rip_log.specs.Cuts.{DropsLines}
 use Rattle.rip_log.specs.Lines.{lines_of}
 use Rattle.rip_log.specs.LogText.{AreLines}
-use Rattle.rip_log.specs.NextCall.{held_by, lines_behind, source_of, text}
+use Rattle.rip_log.specs.Feeds.{held, text}
+use Rattle.rip_log.specs.NextCall.{held_by, lines_behind, source_of, text as log_text}
 use Rattle.rip_log.specs.Wholes.{Begins, OfWhole, rest_of}
 use Rattle.rip_log.specs.declared.limits.TheConstants.{MOST_HELD_BYTES}
+use Rattle.rip_log.specs.declared.feed.Feed.{Feed}
 use Rattle.rip_log.specs.declared.reader.LogReader.{LogReader}
 use Rattle.rip_log.proofs.LineRelations.{AreLines-lines_of}
 use Rattle.rip_log.proofs.WholeLemmas.{rest-is}
@@ -29,7 +31,7 @@ use Rattle.rip_report.proofs.GivenLemmas.{rest_given}
 use Rattle.rip_report.proofs.ReportLemmas.{LogWords, as_read, of_causes}
 
 -- of lines that were taken off a text the others are those of what is left
-of_lines : (bytes behind : List ℕ) (line : ℕ) → DropsLines (Some bytes) 0 (Some behind) line → length behind ≤ MOST_HELD_BYTES → StopsBehind bytes line
+pub of_lines : (bytes behind : List ℕ) (line : ℕ) → DropsLines (Some bytes) 0 (Some behind) line → length behind ≤ MOST_HELD_BYTES → StopsBehind bytes line
 of_lines bytes behind line drops held = record {
   front = drops.0;
   behind = behind;
@@ -43,37 +45,36 @@ of_lines bytes behind line drops held = record {
 }
 
 -- nothing is left of what was given
-nothing_left : {R : Type 0} (given : R → List ℕ) (s : R) (whole : List ℕ) → whole ≡ given s ++ [] → rest_of given whole s ≡ Some []
+pub nothing_left : {R : Type 0} (given : R → List ℕ) (s : R) (whole : List ℕ) → whole ≡ given s ++ [] → rest_of given whole s ≡ Some []
 unfolding rest_of
 nothing_left given s whole split = ap Some (rest-is whole (given s) [] split)
 
--- all that the source gave was taken as lines, or is held
-module _ {R : Type 0} (given : R → List ℕ) (at_end : R → Bool) (log : R) (before after : LogReader R) where
-  of_whole : (line : ℕ) (bytes : List ℕ) → ((coming : R → Option (List ℕ)) → text coming before ≡ coming log) → lines_behind before ≡ 0
-      → length (held_by after) ≤ MOST_HELD_BYTES
-      → OfWhole given at_end (source_of after) (λ coming. DropsLines (text coming before) (lines_behind before) (text coming after) line)
-      → given (source_of after) ≡ given log ++ bytes → StopsBehind bytes line
-  of_whole line bytes front none held drops gave =
-      let whole = given log ++ bytes in
-      let split : whole ≡ given (source_of after) ++ [] = sym gave ∙ sym (append-nil (given (source_of after))) in
-      let begins : Begins whole (given (source_of after)) (at_end (source_of after)) = record { left = []; split = split; ended = λ _. refl } in
-      let old : text (rest_of given whole) before ≡ Some bytes = front (rest_of given whole) ∙ rest_given given log bytes in
-      let new : text (rest_of given whole) after ≡ Some (held_by after) =
-      ap (prepend_known (held_by after)) (nothing_left given (source_of after) whole split) ∙ ap Some (append-nil (held_by after)) in
-      of_lines bytes (held_by after) line
-      (subst (λ (n : ℕ). DropsLines (Some bytes) n (Some (held_by after)) line) none
-      (subst (λ (t : Option (List ℕ)). DropsLines t (lines_behind before) (Some (held_by after)) line) old
-      (subst (λ (t : Option (List ℕ)). DropsLines (text (rest_of given whole) before) (lines_behind before) t line) new (drops whole begins)))) held
+-- all that the source gave was taken as lines, or is held by the buffer: so a reading stops at a line
+pub stops_at : {R : Type 0} (given : R → List ℕ) (at_end : R → Bool) (from : R) (before after : Feed R) → ((coming : R → Option (List ℕ)) → text coming before ≡ coming from)
+    → length (held after) ≤ MOST_HELD_BYTES → (line : ℕ)
+    → OfWhole given at_end after.source (λ coming. DropsLines (text coming before) 0 (text coming after) line) → PullsLittleBehind given from after.source line
+stops_at given at_end from before after front few line drops bytes gave =
+    let whole = given from ++ bytes in
+    let split : whole ≡ given after.source ++ [] = sym gave ∙ sym (append-nil (given after.source)) in
+    let begins : Begins whole (given after.source) (at_end after.source) = record { left = []; split = split; ended = λ _. refl } in
+    let old : text (rest_of given whole) before ≡ Some bytes = front (rest_of given whole) ∙ rest_given given from bytes in
+    let new : text (rest_of given whole) after ≡ Some (held after) =
+    ap (prepend_known (held after)) (nothing_left given after.source whole split) ∙ ap Some (append-nil (held after)) in
+    of_lines bytes (held after) line
+    (subst (λ (t : Option (List ℕ)). DropsLines t 0 (Some (held after)) line) old
+    (subst (λ (t : Option (List ℕ)). DropsLines (text (rest_of given whole) before) 0 t line) new (drops whole begins))) few
 
-  -- so a reading stops at the line of its error
-  pub stops_at_error : (front : (coming : R → Option (List ℕ)) → text coming before ≡ coming log) → lines_behind before ≡ 0
-      → length (held_by after) ≤ MOST_HELD_BYTES → (collected : Result (Unit {0}) CollectError)
-      → IfErr collected (λ e. OfWhole given at_end (source_of after) (λ coming. DropsLines (text coming before) (lines_behind before) (text coming after) e.line))
-      → IfOk (refusal_in collected) (λ refusal. IfSome refusal (λ e. PullsLittleBehind given log (source_of after) e.line))
-  stops_at_error front none held (Ok done) drops = tt
-  stops_at_error front none held (Err e) drops =
-      of_causes (λ refusal. IfSome refusal (λ e. PullsLittleBehind given log (source_of after) e.line)) e (is_memory e.cause) (is_read_cause e.cause)
-      (λ fine read bytes gave. of_whole e.line bytes front none held drops gave)
+-- so the reading of a log stops at the line of its error
+pub stops_at_error : {R : Type 0} (given : R → List ℕ) (at_end : R → Bool) (log : R) (before after : LogReader R) → ((coming : R → Option (List ℕ)) → log_text coming before ≡ coming log)
+    → lines_behind before ≡ 0 → length (held_by after) ≤ MOST_HELD_BYTES → (collected : Result (Unit {0}) CollectError)
+    → IfErr collected (λ e. OfWhole given at_end (source_of after) (λ coming. DropsLines (log_text coming before) (lines_behind before) (log_text coming after) e.line))
+    → IfOk (refusal_in collected) (λ refusal. IfSome refusal (λ e. PullsLittleBehind given log (source_of after) e.line))
+stops_at_error given at_end log before after front none few (Ok done) drops = tt
+stops_at_error given at_end log before after front none few (Err e) drops =
+    let front_drops : OfWhole given at_end (source_of after) (λ coming. DropsLines (log_text coming before) 0 (log_text coming after) e.line) =
+    λ whole begins. subst (λ (n : ℕ). DropsLines (log_text (rest_of given whole) before) n (log_text (rest_of given whole) after) e.line) none (drops whole begins) in
+    of_causes (λ refusal. IfSome refusal (λ e. PullsLittleBehind given log (source_of after) e.line)) e (is_memory e.cause) (is_read_cause e.cause)
+    (λ fine read. stops_at given at_end log before.window.feed after.window.feed front few e.line front_drops)
 
 -- a source that was not touched gave nothing
 pub stops_untouched : {R : Type 0} (given : R → List ℕ) (s : R) (line : ℕ) → PullsLittleBehind given s s line

@@ -15,7 +15,7 @@ use Rattle.rip_capture.specs.declared.packet.Carried.{Carried}
 use Rattle.rip_capture.specs.declared.packet.Carried.TheVariants.{Datagram, Elsewhere, Others}
 use Rattle.rip_report.specs.CaptureText.{AreCarriers, HasTime, LacksTime, IsCaptureOf, comment_line, counted_status, counts_of, file_refusal_line, has_line, is_datagram, line_count, packet_lines, such}
 use Rattle.rip_report.specs.LineTimes.{span_of}
-use Rattle.rip_report.specs.Selections.{Carrier, HaveOneOrigin, IsCarrier, IsLogged, OfInterface, OfVlans, Part, Selection, first_behind, nothing_named}
+use Rattle.rip_report.specs.Selections.{Carrier, HaveOneOrigin, IsCarrier, IsLogged, OfInterface, OfVlans, Part, Selection, first_behind}
 use Rattle.rip_report.specs.LoggedDatagrams.{logged_datagram}
 use Rattle.rip_report.specs.declared.captures.logged.Logged.{Logged}
 use Rattle.rip_report.specs.declared.captures.logged.Logged.TheVariants.{As}
@@ -240,12 +240,12 @@ abbrev pub IsOfFirst : Option Frame → Frame → Type 0
 IsOfFirst None p = ⊥
 IsOfFirst (Some first) p = HaveOneOrigin first p
 
--- a packet is its link's: of the interface and the VLANs that are named, and where nothing is, from
--- where the first packet of its file comes whose sender is known
+-- a packet is its link's: of the interface and the VLANs that are named, and from where the first
+-- packet of these comes whose line names its sender
 pub record IsOwn (selection : Selection) (first : Option Frame) (p : Frame) : Type 0 where
   pub interface : OfInterface selection.interface p
   pub vlans : OfVlans selection.vlans p
-  pub origin : selection ≡ nothing_named → IsOfFirst first p
+  pub origin : IsOfFirst first p
 
 -- a file is a capture, each datagram of its link to 224.0.0.9 is there whole, and these are they,
 -- in order

@@ -10,7 +10,7 @@ use Rattle.rip_capture.specs.declared.reader.CaptureReader.{CaptureReader}
 use Rattle.rip_report.specs.CaptureText.{AreCarriers, HasTime, LacksTime, comment_line, counted, counted_status, counts_of, file_refusal_line, has_line, is_timed, line_count, logged_line, omitted_of, one, packet_lines}
 use Rattle.rip_report.specs.LineTimes.{AreShown, IsShown, IsTimed, noted_span, span_of, time_part}
 use Rattle.rip_log.specs.declared.time.date_time.DateTime.{DateTime}
-use Rattle.rip_report.specs.Selections.{Carrier, IsCarrier, IsLogged, Part, Selection, first_behind, first_with, nothing_named}
+use Rattle.rip_report.specs.Selections.{Carrier, IsCarrier, IsLogged, Part, Selection, first_behind, first_with}
 use Rattle.rip_capture.specs.Origins.{IsOrigin, Origin}
 use Rattle.rip_report.specs.CaptureLogs.{Follows}
 use Rattle.rip_report.specs.Finished.{EndsWith}
@@ -30,14 +30,10 @@ use Rattle.rip_report.specs.declared.status.RunError.TheVariants.{Read, Write}
 use Rattle.rip_report.specs.declared.status.Status.{Status}
 use Rattle.rip_report.specs.declared.status.Status.TheVariants.{Refused as RefusedFile}
 
--- what is kept of the first packet whose sender is known
+-- what is kept of the first packet whose line names its sender
 abbrev pub KeepsFirst : Option Frame → Option Origin → Type 0
 KeepsFirst None kept = kept ≡ None
 KeepsFirst (Some first) kept = (origin : Origin) × (kept ≡ Some origin) × IsOrigin first origin
-
--- the same, where it is asked for
-abbrev pub Keeps : Selection → Option Frame → Option Origin → Type 0
-Keeps selection first kept = selection ≡ nothing_named → KeepsFirst first kept
 
 -- a packet was counted, of which a log has this, and its line added
 pub record CountsPacket (how : Manner) (link : List ℕ) (c : Carrier) (old new : Tally)
@@ -74,7 +70,8 @@ LogsSo how link c old new before after (Err Time) =
     AddsNothing old new before after × LacksTime how c
 LogsSo how link c old new before after (Err (Capture code)) = ⊥
 
--- what logging a packet leaves, and answers, where that is the first one whose sender is known
+-- what logging a packet leaves, and answers, where that is the first one whose line names its
+-- sender
 pub record LogsPacket (how : Manner) (part : Part) (first : Option Frame) (frame : Frame)
     (kept : Option Origin) (old new : Tally) (before after : Progress)
     (result : Result (Unit {0}) RefusalCode) : Type 0 where
@@ -82,7 +79,7 @@ pub record LogsPacket (how : Manner) (part : Part) (first : Option Frame) (frame
   pub frame_is : carrier.frame ≡ frame
   pub carries : IsCarrier carrier
   pub logged : IsLogged part.selection first carrier.frame carrier.carried carrier.logged
-  pub keeps : Keeps part.selection (first_with first carrier.frame carrier.carried) kept
+  pub keeps : KeepsFirst (first_with first carrier.frame carrier.logged) kept
   pub logs : LogsSo how part.link carrier old new before after result
 
 -- how the reading of a file ends at an error

@@ -2,7 +2,9 @@
 use Rattle.std.specs.Prelude.{◌≡◌, ◌⊎◌, ℕ, ◌+◌, ◌-◌, ◌<◌, ◌≤◌, Bool, true, false, List, [], ◌∷◌, ◌++◌, length, Option, Some, None, Result, Ok, Err}
 use Rattle.std.specs.declared.alloc.AllocError.{AllocError}
 use Rattle.rip_plan.specs.Network.{Network}
+use Rattle.rip_log.specs.Cuts.{DropsLines, PassesLines}
 use Rattle.rip_log.specs.Lines.{lines_of}
+use Rattle.rip_log.specs.Taken.{Taken}
 use Rattle.rip_log.specs.TimedCall.{bad_said, timed_capture, timed_said_of}
 use Rattle.rip_log.specs.TimedText.{AreTimedSaid, LineSaid, TimedSaid, captured}
 use Rattle.rip_log.specs.declared.limits.TheConstants.{MOST_LINE_NUMBER, MOST_SECONDS}
@@ -16,7 +18,7 @@ use Rattle.rip_table.specs.Seconds.{later_second, log_seconds, own_second, quiet
 use Rattle.rip_table.specs.Window.{Window, shown}
 use Rattle.rip_table.specs.declared.scene.LineCause.TheVariants.{Log}
 use Rattle.rip_report.specs.Hearings.{IsUnread}
-use Rattle.rip_report.specs.Outs.{Adds, AddsOne, Progress}
+use Rattle.rip_report.specs.Outs.{Adds, AddsOne, IsOnItsWay, Progress}
 use Rattle.rip_report.specs.RefusalText.{refusal_line}
 use Rattle.rip_report.specs.WatchText.{FilmOf, FilmToSettled, Watched, WatchedFront}
 use Rattle.rip_report.specs.declared.status.RunError.{RunError}
@@ -172,3 +174,16 @@ abbrev pub IsUnreadTo : Bool → Option (List ℕ) → Type 0
 IsUnreadTo broken None = Unit {0}
 IsUnreadTo broken (Some text) =
     IsUnread broken text ⊎ (MOST_LINE_NUMBER ≤ length (lines_of text))
+
+-- A film is in step with its log: after the lines before the last one that was read, of a text of
+-- which this is left now, what was printed for them was on its way, and no write had failed.
+pub record IsInStep {K : Type 0} (taken : K → Taken) (broken : K → Bool) (n : Network) (window : ℕ)
+    (until : Bool) (before : Progress) (text left : Option (List ℕ)) : Type 0 where
+  pub behind : ℕ
+  pub to_come : Option (List ℕ)
+  pub passed : PassesLines text 0 to_come behind
+  pub stage : Stage
+  pub printed : List ℕ
+  pub shown : HasShownOf n window until text to_come behind stage printed
+  pub way : IsOnItsWay taken broken before.start (before.text ++ printed)
+  pub drops : DropsLines text 0 left (behind + 1)

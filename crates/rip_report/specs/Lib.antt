@@ -35,3 +35,4 @@ pub mod WatchText
 pub mod Films
 pub mod OwnText
 pub mod OwnRuns
+pub mod Examples

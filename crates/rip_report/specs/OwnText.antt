@@ -6,7 +6,7 @@ use Rattle.rip_plan.specs.Network.{Network}
 use Rattle.rip_plan.specs.PlanOf.{IsPlanOfText}
 use Rattle.rip_table.specs.State.{State}
 use Rattle.rip_routes.specs.OwnTables.{OwnRoute, OwnTables, route_at}
-use Rattle.rip_routes.specs.Telling.{tell_text}
+use Rattle.rip_routes.specs.RouteText.{RefusesText, TellTables}
 use Rattle.rip_routes.specs.declared.error.RoutesCause.{RoutesCause}
 use Rattle.rip_routes.specs.declared.error.RoutesCause.TheVariants as causes
 use Rattle.rip_routes.specs.declared.error.RoutesError.{RoutesError}
@@ -198,9 +198,9 @@ refused_routes e = record {
 -- that a command has for the tables that it tells
 pub data RoutesReport (IsText : OwnTables → State → Written → Type 0) (n : Network)
     (routes : List ℕ) : Written → Type 0 where
-  a_refusal : (e : RoutesError) → tell_text n routes ≡ Err e
+  a_refusal : (e : RoutesError) → RefusesText n routes e
       → RoutesReport IsText n routes (refused_routes e)
-  of_tables : (t : OwnTables) (s : State) (w : Written) → tell_text n routes ≡ Ok t
+  of_tables : (t : OwnTables) (s : State) (w : Written) → TellTables n routes t
       → IsToldBy n t s → IsText t s w → RoutesReport IsText n routes w
 
 -- the same for the bytes of a plan
@@ -212,7 +212,7 @@ RoutesText IsText plan routes = OfPlan (λ n. RoutesReport (IsText n) n routes) 
 -- routes tells
 pub record AreTold (plan routes : List ℕ) (n : Network) (t : OwnTables) : Type 0 where
   pub network : IsPlanOfText plan n
-  pub told : tell_text n routes ≡ Ok t
+  pub told : TellTables n routes t
 
 -- what a verdict's status says of the tables
 pub record IsOwnJudged (n : Network) (t : OwnTables) (status : Status) : Type 0 where

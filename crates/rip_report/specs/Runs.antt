@@ -1,8 +1,10 @@
 -- What runs print and leave: each on a plan, or on a plan and a log, by the texts of its command.
-use Rattle.std.specs.Prelude.{◌≡◌, ◌≢◌, ◌↔◌, ◌≤◌, ℕ, Bool, true, false, List, ◌++◌, length, Option, Some, Result, Err, IfOk}
+use Rattle.std.specs.Prelude.{◌≡◌, ◌≢◌, ◌↔◌, ◌⊎◌, ◌+◌, ◌≤◌, ℕ, Bool, true, false, List, ◌++◌, length, Option, Some, Result, Err, IfOk}
 use Rattle.rip_log.specs.declared.sink.Sink.{Ghosts as SinkOf}
 use Rattle.rip_log.specs.declared.source.Source.{Ghosts as SourceOf}
+use Rattle.rip_log.specs.Cuts.{PassesLines}
 use Rattle.rip_log.specs.LogText.{AreLines}
+use Rattle.rip_log.specs.Taken.{Taken}
 use Rattle.rip_log.specs.Wholes.{Went}
 use Rattle.rip_log.specs.declared.limits.TheConstants.{MOST_HELD_BYTES}
 use Rattle.rip_plan.specs.Network.{Network}
@@ -16,8 +18,9 @@ use Rattle.rip_report.specs.Given.{IsGiven}
 use Rattle.rip_report.specs.Hearings.{EventsText, IsUnread}
 use Rattle.rip_report.specs.PlanText.{IsNoText, OfPlan}
 use Rattle.rip_report.specs.ReportText.{IsAccepted, IsTable, LogMakes, ReportText}
-use Rattle.rip_report.specs.Films.{IsUnreadTo}
-use Rattle.rip_report.specs.Sent.{Prints, PrintsAlong, WentOut}
+use Rattle.rip_report.specs.Films.{HasShownOf, IsUnreadTo, Stage}
+use Rattle.rip_report.specs.Outs.{IsOnItsWay}
+use Rattle.rip_report.specs.Sent.{Prints, PrintsAlong, WentOut, sink_state}
 use Rattle.rip_report.specs.WatchText.{EndsRight, IsVerdictStatus, LiesWithin, WatchFront, WatchText, WatchedLog, WatchedLogFront}
 use Rattle.rip_log.specs.TimedText.{LineSaid, TextSays}
 use Rattle.rip_report.specs.Written.{Written}
@@ -144,6 +147,29 @@ pub record DrawsTimes {R : Type 0} (from : SourceOf R) (until : Bool) (log new :
   pub ended : IfOk result (λ status. (until ≡ true → status ≢ Settled) → status ≢ Refused →
       from.at_end new ≡ true)
 
+-- Of the bytes of a log with times that a run had pulled so many lines were read before the last
+-- one: what it had printed for them was on its way then, and no write had failed; and behind that
+-- line no more was pulled than a reader holds.
+pub record ReadsInStep {K : Type 0} (taken : K → Taken) (broken : K → Bool) (n : Network)
+    (window : ℕ) (until : Bool) (out : K) (bytes : List ℕ) : Type 0 where
+  pub before : ℕ
+  pub to_come : Option (List ℕ)
+  pub passed : PassesLines (Some bytes) 0 to_come before
+  pub stage : Stage
+  pub printed : List ℕ
+  pub shown : HasShownOf n window until (Some bytes) to_come before stage printed
+  pub way : IsOnItsWay taken broken (sink_state taken broken out) printed
+  pub stops : StopsBehind bytes (before + 1)
+
+-- the same of all bytes that a source gave, unless it failed, or a line or the number of lines has
+-- no end
+abbrev pub StaysInStep : {R K : Type 0} → SourceOf R → SinkOf K → ℕ → Bool → Network → R → R → K
+    → Type 0
+StaysInStep source sink window until n log new out =
+    (bytes : List ℕ) → source.given new ≡ source.given log ++ bytes
+    → IsUnreadTo (source.broken new) (Some bytes)
+    ⊎ ReadsInStep sink.taken sink.broken n window until out bytes
+
 -- a run on a log with times by a plan
 pub record Watches {R K : Type 0} (source : SourceOf R) (sink : SinkOf K) (window : ℕ)
     (until : Bool) (n : Network) (log : R) (out : K) (run : R × K × Result Status RunError)
@@ -173,3 +199,6 @@ pub record RunsOnTimes {R K : Type 0} (source : SourceOf R) (sink : SinkOf K) (w
   pub draws : DrawsTimes source until log run.0 run.2
   -- if the plan is refused, the log is not touched; one that is no text never gives Memory
   pub refuses : RefusesPlan plan log run.0 run.2
+  -- by this plan not much more is read where the sink has failed
+  pub stops : (n : Network) → IsPlanOfText plan n →
+      StaysInStep source sink window until n log run.0 out

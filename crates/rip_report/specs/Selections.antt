@@ -1,5 +1,5 @@
 -- Which packets of a capture file are its link's, and what a log has of each.
-use Rattle.std.specs.Prelude.{◌≡◌, ◌≢◌, ◌⊎◌, ℕ, true, if◌then◌else◌, List, [], ◌∷◌, Option, Some, None, is_some}
+use Rattle.std.specs.Prelude.{◌≡◌, ◌⊎◌, ℕ, true, if◌then◌else◌, List, [], ◌∷◌, Option, Some, None, is_some}
 use Rattle.rip_capture.specs.Carries.{Carries}
 use Rattle.rip_capture.specs.Interfaces.{Named}
 use Rattle.rip_capture.specs.Origins.{IsOrigin, Origin}
@@ -14,8 +14,7 @@ use Rattle.rip_report.specs.declared.captures.part.FilePart.{FilePart}
 use Rattle.rip_report.specs.declared.captures.part.Selection.{Selection as Given}
 
 -- the packets of a file that are its link's: those of an interface, where one is named, and of just
--- these VLANs, where any are; where nothing is named, all, and those of known senders have to come
--- from one place
+-- these VLANs, where any are; those of known senders have to come from one place
 pub record Selection : Type 0 where
   pub interface : List ℕ
   pub vlans : List ℕ
@@ -81,42 +80,45 @@ abbrev pub OfVlans : List ℕ → Frame → Type 0
 OfVlans [] p = Unit {0}
 OfVlans (vlan ∷ vlans) p = HasVlans p.link_type p.bytes (vlan ∷ vlans)
 
--- a packet is its link's: it is of the interface and the VLANs that are named, but of one that is
--- cut before its end the tags may not be there; and where nothing is named, it comes from where the
--- first one came whose sender is known
-pub record Belongs (selection : Selection) (first : Option Frame) (p : Frame) (carried : Carried)
-    : Type 0 where
+-- a packet passes the selection: it is of the interface and the VLANs that are named, but of one
+-- that is cut before its sender the tags may not be there
+pub record Passes (selection : Selection) (p : Frame) (carried : Carried) : Type 0 where
   pub interface : OfInterface selection.interface p
   pub vlans : (carried ≡ Unknown) ⊎ OfVlans selection.vlans p
-  pub origin : selection ≡ nothing_named → ComesFrom first p carried
 
 -- ---- what a log has of packets
 
--- what a log has of a packet, behind the first one whose sender is known: what it carries; or that
--- it comes from elsewhere than that one; or nothing
+-- What a log has of a packet, after the first one that passed the selection and whose sender is
+-- known: what it carries, where it passes and comes from where that one came; that it comes from
+-- elsewhere, where it passes; and nothing, where it does not pass.
 pub data IsLogged (selection : Selection) (first : Option Frame) (p : Frame) (carried : Carried)
     (logged : Logged) : Type 0 where
-  own : Belongs selection first p carried → logged ≡ As carried →
+  own : Passes selection p carried → ComesFrom first p carried → logged ≡ As carried →
       IsLogged selection first p carried logged
-  mixed : (sender : ℕ) → selection ≡ nothing_named → ¬ Belongs selection first p carried →
+  mixed : (sender : ℕ) → Passes selection p carried → ¬ ComesFrom first p carried →
       sender_of carried ≡ Some sender → logged ≡ Mixed sender →
       IsLogged selection first p carried logged
-  other : selection ≢ nothing_named → ¬ Belongs selection first p carried → logged ≡ As Others →
+  other : ¬ Passes selection p carried → logged ≡ As Others →
       IsLogged selection first p carried logged
 
--- the first packet whose sender is known, behind one more
-abbrev pub first_with : Option Frame → Frame → Carried → Option Frame
-first_with (Some first) p carried = Some first
-first_with None p carried = if is_some (sender_of carried) then Some p else None
+-- the sender that the line of a packet names
+abbrev pub named_sender : Logged → Option ℕ
+named_sender (As carried) = sender_of carried
+named_sender (Mixed sender) = Some sender
+
+-- the first packet whose line names its sender, after one more
+abbrev pub first_with : Option Frame → Frame → Logged → Option Frame
+first_with (Some first) p logged = Some first
+first_with None p logged = if is_some (named_sender logged) then Some p else None
 
 -- what a log has of packets, one after the other
 abbrev pub AreLogged : Selection → Option Frame → List Carrier → Type 0
 AreLogged selection first [] = Unit {0}
 AreLogged selection first (c ∷ carriers) =
     IsLogged selection first c.frame c.carried c.logged
-    × AreLogged selection (first_with first c.frame c.carried) carriers
+    × AreLogged selection (first_with first c.frame c.logged) carriers
 
--- the first packet whose sender is known, behind these
+-- the first packet whose line names its sender, after these
 abbrev pub first_behind : Option Frame → List Carrier → Option Frame
 first_behind first [] = first
-first_behind first (c ∷ carriers) = first_behind (first_with first c.frame c.carried) carriers
+first_behind first (c ∷ carriers) = first_behind (first_with first c.frame c.logged) carriers

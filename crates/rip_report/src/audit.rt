@@ -135,7 +135,8 @@ pub(crate) fn add_audit<T: Table, K: Sink>(
     all: bool,
 ) -> Result<Status, AllocError>
     requires { Fits plan.now (T.state table.now) }
-    ensures adds { AddsWritten out.old out.new result (VerdictText plan.now (T.state table.now) all) }
+    ensures adds { AddsWritten out.old out.new result
+        (VerdictText plan.now (T.state table.now) all) }
     ensures memory { is_err result ≡ true →
         (all ≡ true) × IsJudged plan.now (T.state table.now) Status.Unsettled }
     ensures judged { IfOk result (IsJudged plan.now (T.state table.now)) }

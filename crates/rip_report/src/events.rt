@@ -43,7 +43,8 @@ pub(crate) trait EventReport<L: Listener> {
         requires fits { Fits plan.now (T.state table.now) }
         requires suits { L.suits plan.now listener.now }
         ensures { (events : List EventAt) → L.holds listener.now events →
-            AddsWritten out.old out.new result (is_text self.now plan.now events (T.state table.now)) };
+            AddsWritten out.old out.new result
+            (is_text self.now plan.now events (T.state table.now)) };
 }
 
 /// Writes what a command tells of a table, and of what a listener has heard.

@@ -137,7 +137,8 @@ fn add_explained<T: Table, K: Sink>(
     all: bool,
 ) -> Result<Status, AllocError>
     requires { Fits plan.now (T.state table.now) }
-    ensures adds { AddsWritten out.old out.new result (ExplainText plan.now (T.state table.now) all) }
+    ensures adds { AddsWritten out.old out.new result
+        (ExplainText plan.now (T.state table.now) all) }
     ensures judged { IfOk result (IsJudged plan.now (T.state table.now)) }
 {
     plan.lawful();

@@ -169,7 +169,8 @@ impl<K: Sink> Out<K> {
 
     /// Sends what is left. The sink comes back, and whether all text went out.
     pub(crate) fn finish(self) -> (K, Result<(), Failed>)
-        ensures writes { Writes self.start (sink_state K.taken K.broken result.0) result.1 self.text [] }
+        ensures writes { Writes self.start (sink_state K.taken K.broken result.0) result.1
+            self.text [] }
         ensures failed { self.failed ≡ true → is_err result.1 ≡ true }
     {
         let Out {

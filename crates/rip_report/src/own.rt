@@ -9,13 +9,14 @@ ghost use Rattle.std.specs.Prelude.{◌≡◌, ◌≢◌, Ok, Err, IfOk, ℕ, Li
 ghost use Rattle.rip_plan.specs.Network.{Network};
 ghost use Rattle.rip_table.specs.State.{Fits, State};
 ghost use Rattle.rip_routes.specs.OwnTables.{FitsOwn, OwnTables};
-ghost use Rattle.rip_routes.specs.Telling.{tell_text};
+ghost use Rattle.rip_routes.specs.RouteText.{RefusesText, TellTables};
+ghost use Rattle.rip_routes.specs.declared.error.RoutesError.{RoutesError};
 ghost use Rattle.rip_check.specs.OwnTells.{IsToldBy};
 ghost use Rattle.rip_report.specs.Finished.{AddsWritten};
 ghost use Rattle.rip_report.specs.Given.{IsGiven};
 ghost use Rattle.rip_report.specs.OwnRuns.{RunsOnRoutes};
 ghost use Rattle.rip_report.specs.OwnText.{AreTold, IsOwnJudged, JudgesRightly, RoutesReport};
-ghost use Rattle.rip_report.specs.Runs.{Reads};
+ghost use Rattle.rip_report.specs.Runs.{PullsLittleBehind, Reads};
 ghost use Rattle.rip_report.specs.Sent.{Prints};
 ghost use Rattle.rip_report.specs.Written.{Written};
 
@@ -31,6 +32,7 @@ use rip_log::{Sink, Source};
 use rip_plan::Plan;
 use rip_plan::laws::one_plan;
 use rip_routes::RouteTables;
+use rip_routes::laws::{refused_texts, told_texts};
 use rip_table::Table;
 use std::alloc::{AllocError, Global};
 use std::hash::BuildHasher;
@@ -117,9 +119,15 @@ fn report_routes<C: OwnReport, R: Source, K: Sink, S: BuildHasher + Drop>(
         (RoutesReport (C.is_text command.now plan.now) plan.now text) }
     ensures reads { Reads R.given R.coming R.broken R.at_end routes result.0 result.2 }
     ensures judged { (text : List ℕ) → IsGiven R.given R.at_end routes result.0 text →
-        (t : OwnTables) → tell_text plan.now text ≡ Ok t →
+        (t : OwnTables) → TellTables plan.now text t →
         IfOk result.2 (JudgesRightly plan.now t) }
+    ensures stops { (text : List ℕ) → IsGiven R.given R.at_end routes result.0 text →
+        (e : RoutesError) → RefusesText plan.now text e →
+        IfOk result.2 (λ status. PullsLittleBehind R.given routes result.0 e.line) }
 {
+    plan.lawful();
+    told_texts();
+    refused_texts();
     let (source, read) = read_routes(alloc, plan, routes, prefixes, ways);
     match read {
         Ok(Ok(tables)) => {

@@ -217,7 +217,8 @@ fn add_routes<T: Table, K: Sink>(
     left_out: Counts,
 ) -> Result<Status, AllocError>
     requires { Fits plan.now (T.state table.now) }
-    ensures { AddsWritten out.old out.new result (AnywayRoutes plan.now (T.state table.now) left_out) }
+    ensures { AddsWritten out.old out.new result
+        (AnywayRoutes plan.now (T.state table.now) left_out) }
 {
     let expected = Expected::find(alloc, plan)?;
     push_counts_line(out, plan, table);

@@ -12,11 +12,11 @@ ghost use Rattle.rip_plan.specs.PlanOf.{IsPlanOfText};
 ghost use Rattle.rip_plan.specs.WellFormed.{IsWellFormed};
 ghost use Rattle.rip_table.specs.State.{Fits, State};
 ghost use Rattle.rip_table.specs.Window.{new_window, shown};
-ghost use Rattle.rip_report.specs.Films.{EndsFilm, IsEnd, IsNew, IsNotTimed, IsStage, IsUnreadTo, ShowsText, TakesLine, line_second, stage_of};
+ghost use Rattle.rip_report.specs.Films.{EndsFilm, IsEnd, IsInStep, IsNew, IsNotTimed, IsStage, IsUnreadTo, ShowsText, TakesLine, line_second, stage_of};
 ghost use Rattle.rip_report.specs.Given.{IsGiven};
-ghost use Rattle.rip_report.specs.Outs.{AddsOne, HasGoneOut};
+ghost use Rattle.rip_report.specs.Outs.{AddsOne, HasGoneOut, IsOnItsWay};
 ghost use Rattle.rip_report.specs.ReportText.{IsAccepted};
-ghost use Rattle.rip_report.specs.Runs.{RunsOnTimes, Watches};
+ghost use Rattle.rip_report.specs.Runs.{RunsOnTimes, StaysInStep, Watches};
 ghost use Rattle.rip_report.specs.WatchText.{EndsRight, IsVerdictStatus, LiesWithin};
 
 use crate::output::Out;
@@ -209,6 +209,11 @@ fn watch_lines<R: Source, T: WindowTable, K: Sink>(
     ensures ended { IfOk result (λ status. (watching.now.until_settled ≡ true →
         status ≢ Status.Settled) → status ≢ Status.Refused →
         R.at_end (timed_source reader.new) ≡ true) }
+    ensures stops { out.old.failed ≡ false →
+        IsOnItsWay K.taken K.broken out.old.start out.old.text → result ≢ Err RunError.Read →
+        OfWhole R.given R.at_end (timed_source reader.new) (λ coming. IsInStep K.taken K.broken
+        plan.now watching.now.length watching.now.until_settled out.old
+        (timed_text coming reader.old) (timed_text coming reader.new)) }
 {
     timed_texts();
     'lines: loop {
@@ -244,6 +249,8 @@ fn watch_by<R: Source, T: WindowTable + Drop, K: Sink>(
     requires fits { Fits plan.now (T.state table) }
     ensures watches { Watches R.Source K.Sink watching.now.length watching.now.until_settled
         plan.now log out result }
+    ensures stops { StaysInStep R.Source K.Sink watching.now.length watching.now.until_settled
+        plan.now log result.0 out }
 {
     lasting_scenes();
     last_seconds();
@@ -257,6 +264,7 @@ fn watch_by<R: Source, T: WindowTable + Drop, K: Sink>(
     let mut watch = Watch::new(alloc, table);
     let mut text = Out::new(out);
     let ended = watch_lines(alloc, plan, watching, &mut reader, &mut watch, &mut text);
+    reader.lawful();
     let (out, answer) = text.finish_with(ended);
     (reader.into_source(), out, answer)
 }
@@ -272,6 +280,8 @@ fn watch_log<R: Source, K: Sink, S: BuildHasher + Drop>(
 ) -> (R, K, Result<Status, RunError>)
     ensures watches { Watches R.Source K.Sink watching.now.length watching.now.until_settled
         plan.now log out result }
+    ensures stops { StaysInStep R.Source K.Sink watching.now.length watching.now.until_settled
+        plan.now log result.0 out }
 {
     match GridWindow::with_hasher(alloc, plan, hasher) {
         Ok(table) => watch_by(alloc, plan, watching, table, log, out),

@@ -6,10 +6,10 @@ ghost use Rattle.rip_capture.specs.Origins.{origin_in};
 ghost use Rattle.rip_capture.specs.Pcap.{Frame};
 ghost use Rattle.rip_capture.specs.declared.limits.TheConstants.{MOST_CAPTURED};
 ghost use Rattle.rip_log.specs.declared.limits.TheConstants.{MOST_LINES};
-ghost use Rattle.rip_report.specs.CapturePackets.{Keeps, LogsPacket, LogsPackets, ended_at, ended_by};
+ghost use Rattle.rip_report.specs.CapturePackets.{KeepsFirst, LogsPacket, LogsPackets, ended_at, ended_by};
 ghost use Rattle.rip_report.specs.CaptureText.{HasRoom};
 ghost use Rattle.rip_report.specs.Outs.{Adds, HasGoneOut};
-ghost use Rattle.rip_report.specs.Selections.{selection_of, part_of};
+ghost use Rattle.rip_report.specs.Selections.{part_of};
 
 use crate::captures::counts::PacketCounts;
 use crate::captures::ending::{Ending, RefusalCode};
@@ -37,8 +37,7 @@ fn log_packet<K: Sink>(
     requires room { HasRoom tally.old.counts }
     requires lines { tally.old.lines ≤ MOST_LINES }
     requires short { length packet.now.bytes.now ≤ MOST_CAPTURED }
-    ensures { (seen : Option Frame) →
-        Keeps (selection_of part.now.selection) seen (origin_in first.old) →
+    ensures { (seen : Option Frame) → KeepsFirst seen (origin_in first.old) →
         LogsPacket manner (part_of part.now) seen (frame_of packet.now)
         (origin_in first.new) tally.old tally.new out.old out.new result }
 {

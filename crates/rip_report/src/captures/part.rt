@@ -1,7 +1,7 @@
 //! What of a capture file is a link's.
 
 /// Which packets of a capture file are its link's: those of an interface, of VLANs, or of both (and
-/// one that is cut before its tags, which may be of any). All others are passed over. Where nothing
+/// one that is cut before its sender, which may be of any). All others are passed over. Where nothing
 /// is named, they are all, and those whose sender is known have to come from one place: by one
 /// interface, in the same VLANs.
 #[derive(Clone, Copy, Debug)]

@@ -6,9 +6,9 @@ ghost use Rattle.rip_capture.specs.NextCall.{frame_of};
 ghost use Rattle.rip_capture.specs.Origins.{origin_in};
 ghost use Rattle.rip_capture.specs.Pcap.{Frame};
 ghost use Rattle.rip_capture.specs.declared.limits.TheConstants.{MOST_CAPTURED};
-ghost use Rattle.rip_report.specs.CapturePackets.{Keeps, KeepsFirst};
+ghost use Rattle.rip_report.specs.CapturePackets.{KeepsFirst};
 ghost use Rattle.rip_report.specs.CaptureText.{LogLiesWithin};
-ghost use Rattle.rip_report.specs.Selections.{Belongs, ComesFrom, IsLogged, OfInterface, OfVlans, first_with, nothing_named, selection_of, sender_of};
+ghost use Rattle.rip_report.specs.Selections.{ComesFrom, IsLogged, OfInterface, OfVlans, Passes, first_with, selection_of, sender_of};
 
 use crate::captures::logged::Logged;
 use crate::captures::part::Selection;
@@ -44,11 +44,14 @@ fn is_of_vlans(packet: &Packet<'_>, vlans: &[u16]) -> bool
     vlans.is_empty() || are_vlans(packet.link_type, packet.bytes, vlans)
 }
 
-/// Whether nothing is named, so that all packets have to come from one place.
-fn names_nothing(selection: &Selection<'_>) -> bool
-    ensures { Decides result (selection_of selection.now ≡ nothing_named) }
+/// Whether a packet passes a selection. If it is cut before its sender, its tags
+/// may not be there.
+fn passes(selection: &Selection<'_>, packet: &Packet<'_>, carried: &Carried) -> bool
+    ensures { Decides result
+        (Passes (selection_of selection.now) (frame_of packet.now) carried.now) }
 {
-    selection.interface.is_empty() && selection.vlans.is_empty()
+    is_of_interface(packet, selection.interface)
+        && (matches!(carried, Carried::Unknown) || is_of_vlans(packet, selection.vlans))
 }
 
 /// Whether a packet comes from where the first one came, if its sender is known.
@@ -56,35 +59,15 @@ fn comes_from(first: &mut FirstOrigin, packet: &Packet<'_>, carried: &Carried) -
     requires { length packet.now.bytes.now ≤ MOST_CAPTURED }
     ensures { (seen : Option Frame) → KeepsFirst seen (origin_in first.old) →
         Decides result (ComesFrom seen (frame_of packet.now) carried.now)
-        × KeepsFirst (first_with seen (frame_of packet.now) carried.now) (origin_in first.new) }
+        × KeepsFirst (first_with seen (frame_of packet.now) (Logged.As carried.now))
+        (origin_in first.new) }
 {
     one_origin();
     sender_of(carried).is_none() || first.admits(packet)
 }
 
-/// Whether a packet is its link's, where it is known what comes from where the first one came whose
-/// sender is known.
-fn belongs(
-    selection: &Selection<'_>,
-    first: &mut FirstOrigin,
-    packet: &Packet<'_>,
-    carried: &Carried,
-) -> bool
-    requires { length packet.now.bytes.now ≤ MOST_CAPTURED }
-    ensures { (seen : Option Frame) →
-        Keeps (selection_of selection.now) seen (origin_in first.old) →
-        Decides result (Belongs (selection_of selection.now) seen (frame_of packet.now) carried.now)
-        × Keeps (selection_of selection.now) (first_with seen (frame_of packet.now) carried.now)
-        (origin_in first.new) }
-{
-    if names_nothing(selection) {
-        return comes_from(first, packet, carried);
-    }
-    is_of_interface(packet, selection.interface)
-        && (matches!(carried, Carried::Unknown) || is_of_vlans(packet, selection.vlans))
-}
-
-/// What a log has of a packet, behind the first one whose sender is known.
+/// What a log has of a packet, after the first one that passed the selection and whose sender is
+/// known.
 pub(crate) fn logged(
     selection: &Selection<'_>,
     first: &mut FirstOrigin,
@@ -92,18 +75,16 @@ pub(crate) fn logged(
     carried: Carried,
 ) -> Logged
     requires { length packet.now.bytes.now ≤ MOST_CAPTURED }
-    ensures logged { (seen : Option Frame) →
-        Keeps (selection_of selection.now) seen (origin_in first.old) →
+    ensures logged { (seen : Option Frame) → KeepsFirst seen (origin_in first.old) →
         IsLogged (selection_of selection.now) seen (frame_of packet.now) carried result
-        × Keeps (selection_of selection.now) (first_with seen (frame_of packet.now) carried)
-        (origin_in first.new) }
+        × KeepsFirst (first_with seen (frame_of packet.now) result) (origin_in first.new) }
     ensures lies { (size : ℕ) → LiesWithin size carried → LogLiesWithin size result }
 {
-    if belongs(selection, first, packet, &carried) {
-        return Logged::As(carried);
-    }
-    if !names_nothing(selection) {
+    if !passes(selection, packet, &carried) {
         return Logged::As(Carried::Others);
+    }
+    if comes_from(first, packet, &carried) {
+        return Logged::As(carried);
     }
     match sender_of(&carried) {
         Some(sender) => Logged::Mixed(sender),

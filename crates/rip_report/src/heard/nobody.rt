@@ -36,7 +36,8 @@ fn push_bad_by<S: BuildHasher + Drop, K: Sink>(
 )
     requires { IsSome (plain_code code) }
     ensures { (events : List EventAt) (k : ℕ) → HasHeard tallies.now events →
-        plain_code code ≡ Some k → Adds out.old out.new (plain_bad_line code (plain_lines k events)) }
+        plain_code code ≡ Some k →
+        Adds out.old out.new (plain_bad_line code (plain_lines k events)) }
 {
     push_plain_bad_line(out, code, tallies.bad(code));
 }

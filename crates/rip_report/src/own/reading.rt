@@ -1,14 +1,16 @@
 //! From a text of routes to tables.
 
-ghost use Rattle.std.specs.Prelude.{◌≡◌, ◌≢◌, Ok, Err, IfOk, OnOk, is_ok, true, ℕ, List};
+ghost use Rattle.std.specs.Prelude.{◌≡◌, ◌≢◌, Ok, Err, IfErr, IfOk, OnOk, is_ok, true, ℕ, List};
 ghost use Rattle.rip_log.specs.Wholes.{Went};
 ghost use Rattle.rip_routes.specs.OwnTables.{FitsOwn};
 ghost use Rattle.rip_report.specs.Given.{IsGiven};
 ghost use Rattle.rip_report.specs.OwnRuns.{TellsOrRefuses, read_of};
+ghost use Rattle.rip_report.specs.Runs.{PullsLittleBehind};
 
 use crate::status::RunError;
 use rip_log::{Source, TextReader};
 use rip_plan::Plan;
+use rip_routes::laws::{refused_texts, told_texts};
 use rip_routes::{GridRoutes, RouteTables, RoutesCause, RoutesError, collect_routes};
 use std::alloc::Global;
 use std::hash::BuildHasher;
@@ -46,11 +48,18 @@ pub(crate) fn read_routes<R: Source, S: BuildHasher + Drop>(
     ensures write { result.1 ≢ Err RunError.Write }
     ensures mark { result.1 ≢ Err RunError.Read → R.broken result.0 ≡ R.broken routes }
     ensures ended { IfOk result.1 (λ read. OnOk read (R.at_end result.0 ≡ true)) }
+    // Behind a refused line no more is pulled than a reader holds.
+    ensures stops { IfOk result.1 (λ read. IfErr read (λ e.
+        PullsLittleBehind R.given routes result.0 e.line)) }
 {
+    plan.lawful();
+    told_texts();
+    refused_texts();
     match TextReader::new(alloc, routes) {
         Err((_, source)) => (source, Err(RunError::Memory)),
         Ok(mut reader) => {
             let collected = collect_routes(alloc, plan, &mut reader, prefixes, ways);
+            reader.lawful();
             (reader.into_source(), outcome(collected))
         }
     }

@@ -1,10 +1,12 @@
-use Rattle.std.proofs.Common.{◌≡◌, rules}
+use Rattle.std.proofs.Common.{◌≡◌, rules, subst, sym}
 use Rattle.std.specs.Prelude.{◌↔◌, IfOk}
 use Rattle.rip_report.specs.PlanText.{a_fault, of_plan}
+use Rattle.rip_report.specs.Runs.{StaysInStep}
 use Rattle.rip_report.specs.WatchText.{EndsRight, IsVerdictStatus, WatchFront, WatchText}
 use Rattle.rip_report.specs.declared.status.Status.TheVariants.{Settled}
 use Rattle.rip_report.proofs.EndLemmas.{first_told}
 use Rattle.rip_report.proofs.ReportLemmas.{of_read, of_refused, same_plan}
+use Rattle.rip_report.proofs.StepLemmas.{untouched_in_step}
 use Rattle.rip_report.proofs.WatchRunLemmas.{along_also, never_refused, refused_along, settled_also, undrawn_times}
 use Rattle.rip_report.proofs.watch.run_watch.Goals as goal
 
@@ -18,6 +20,9 @@ returns-in-Ok-clause-runs g c =
           (λ w h. of_plan c.in-Ok.plan w c.in-Ok.ensures.no_fault c.in-Ok.ensures.plan h) (w.prints text given);
       draws = w.draws;
       refuses = record { untouched = λ e fault. absurd (c.in-Ok.ensures.no_fault e (fault.pass, fault.found)); no_text = search rules };
+      stops = λ n is.
+          let same = same_plan c.args.plan.now n c.in-Ok.plan (λ a b q. c.one_plan.ensures q.document a b) is c.in-Ok.ensures.plan in
+          subst (λ m. StaysInStep g.R.Source K c.args.watching.length c.args.watching.until_settled m c.args.log c.watch_log.result.0 c.args.out) (sym same) c.watch_log.ensures.stops;
     }
 
 pub returns-in-Ok-clause-settled : goal.returns-in-Ok-clause-settled
@@ -47,6 +52,7 @@ returns-in-Err-clause-runs g c =
       draws = undrawn_times S watching.until_settled c.args.log fault K.taken K.broken c.args.out c.refuse_plan-out.result.0 answer
           (g.met.R.Source.nothing_left c.args.log) refused.read refused.prints;
       refuses = search rules;
+      stops = λ n is. untouched_in_step S K watching.length watching.until_settled n c.args.log c.args.out;
     }
 
 pub returns-in-Err-clause-settled : goal.returns-in-Err-clause-settled

@@ -1,11 +1,14 @@
-use Rattle.std.proofs.Common.{◌∙◌, ◌++◌, Ok, Err, sym, ap, subst, arith, inl, inr}
+use Rattle.std.proofs.Common.{◌∙◌, ◌+◌, ◌++◌, Ok, Err, sym, ap, subst, arith, inl, inr}
 use Rattle.rip_log.specs.TimedCall.{timed_lines, timed_source, timed_text}
 use Rattle.rip_log.specs.Wholes.{rest_of}
 use Rattle.rip_log.proofs.WholeLemmas.{begins_back, went_on}
 use Rattle.rip_report.specs.Films.{ShowsText, stage_of}
-use Rattle.rip_report.specs.Outs.{AddsOne, Progress}
+use Rattle.rip_report.specs.Outs.{AddsOne, IsOnItsWay, Progress}
+use Rattle.rip_report.specs.Sent.{SinkState}
 use Rattle.rip_report.specs.declared.status.RunError.TheVariants.{Memory, Read, Write}
+use Rattle.rip_log.proofs.PassLemmas.{drops_kept, drops_trans}
 use Rattle.rip_report.proofs.OutLemmas.{added_also}
+use Rattle.rip_report.proofs.StepLemmas.{drops_timed, in_step}
 use Rattle.rip_report.proofs.TimedLineLemmas.{ends_at, gives_up, goes_on, goes_to_end, lacks_at, passes_more, unread_to}
 use Rattle.rip_report.proofs.WatchLemmas.{added_then}
 use Rattle.rip_report.proofs.watch.watch_lines.Goals as goal
@@ -178,6 +181,14 @@ lines-preserved g c =
           (begins_back S.given S.coming S.at_end whole (timed_source was) (timed_source now) h.went begins)) (h.gives whole begins));
       went = went_on S.given S.coming S.at_end (timed_source c.args.reader.now) (timed_source was) (timed_source now) c.lines.invariant.went h.went;
       stage = c.take.ensures.stage (c.in-Ok-None-take.is ∙ ap Ok c.in-Ok-None-take.field-0-is);
+      drops = λ whole begins.
+          let coming = rest_of S.given whole in
+          let before = begins_back S.given S.coming S.at_end whole (timed_source was) (timed_source now) h.went begins in
+          rw h.behind (drops_timed (timed_text coming c.args.reader.now) (timed_text coming was) (timed_text coming now) _ (timed_lines was) (c.lines.invariant.drops whole before) (h.gives whole begins));
+      start = takes.adds.start ∙ c.lines.invariant.start;
+      sound = λ sound. sym c.has_failed.ensures.failed ∙ c.if-has_failed.false;
+      way = λ sound way.
+          subst (λ (start : SinkState). IsOnItsWay g.K.Sink.taken g.K.Sink.broken start c.take.new.out.text) (takes.adds.start ∙ c.lines.invariant.start) (c.has_failed.ensures.way c.if-has_failed.false);
       marks = h.marks ∙ c.lines.invariant.marks;
     }
 
@@ -187,3 +198,88 @@ lines-smaller g c =
     let next = h.behind in
     let few = h.few in
     omega (arith, next, few)
+
+pub returns-in-Ok-clause-stops : goal.returns-in-Ok-clause-stops
+returns-in-Ok-clause-stops g c = λ sound way not_read whole begins.
+    let S = g.R.Source in
+    let K = g.K.Sink in
+    let coming = rest_of S.given whole in
+    let was = c.lines.reader in
+    let now = c.next.follows.lender-at-none in
+    let watching = c.args.watching.now in
+    let text = timed_text coming c.args.reader.now in
+    let h = rw (c.in-Ok-None.is, c.in-Ok-None.field-0-is) at c.next.follows.holds-at-none in
+    let before = begins_back S.given S.coming S.at_end whole (timed_source was) (timed_source now) h.went begins in
+    let gives = h.gives whole begins in
+    let dropped = c.lines.invariant.drops whole before in
+    in_step K.taken K.broken c.args.plan.now watching.length watching.until_settled c.args.out.now c.lines.out text (timed_text coming was) (timed_text coming now) (timed_lines was)
+    (stage_of g.T.WindowTable.window c.lines.watch) (c.lines.invariant.passed whole before) (c.lines.invariant.shown whole before) (c.lines.invariant.way sound way)
+    (drops_trans text (timed_text coming was) (timed_text coming now) 0 (timed_lines was) (timed_lines was + 1) dropped (drops_kept (timed_text coming was) (timed_text coming now) (timed_lines was) (timed_lines was + 1) gives.0 (omega arith)))
+
+pub returns-in-Err-end-clause-stops : goal.returns-in-Err-end-clause-stops
+returns-in-Err-end-clause-stops g c = λ sound way not_read whole begins.
+    let S = g.R.Source in
+    let K = g.K.Sink in
+    let coming = rest_of S.given whole in
+    let was = c.lines.reader in
+    let now = c.next.follows.lender-at-none in
+    let watching = c.args.watching.now in
+    let text = timed_text coming c.args.reader.now in
+    let h = rw (c.in-Ok-None.is, c.in-Ok-None.field-0-is) at c.next.follows.holds-at-none in
+    let before = begins_back S.given S.coming S.at_end whole (timed_source was) (timed_source now) h.went begins in
+    let gives = h.gives whole begins in
+    let dropped = c.lines.invariant.drops whole before in
+    in_step K.taken K.broken c.args.plan.now watching.length watching.until_settled c.args.out.now c.lines.out text (timed_text coming was) (timed_text coming now) (timed_lines was)
+    (stage_of g.T.WindowTable.window c.lines.watch) (c.lines.invariant.passed whole before) (c.lines.invariant.shown whole before) (c.lines.invariant.way sound way)
+    (drops_trans text (timed_text coming was) (timed_text coming now) 0 (timed_lines was) (timed_lines was + 1) dropped (drops_kept (timed_text coming was) (timed_text coming now) (timed_lines was) (timed_lines was + 1) gives.0 (omega arith)))
+
+pub returns-in-Ok-Some-take-clause-stops : goal.returns-in-Ok-Some-take-clause-stops
+returns-in-Ok-Some-take-clause-stops g c = λ sound way not_read whole begins.
+    let S = g.R.Source in
+    let K = g.K.Sink in
+    let coming = rest_of S.given whole in
+    let was = c.lines.reader in
+    let now = c.next.follows.lender-at-none in
+    let watching = c.args.watching.now in
+    let text = timed_text coming c.args.reader.now in
+    let h = rw (c.in-Ok-Some.is, c.in-Ok-Some.field-0-is) at c.next.follows.holds-at-none in
+    let before = begins_back S.given S.coming S.at_end whole (timed_source was) (timed_source now) h.went begins in
+    let gives = h.gives whole begins in
+    let dropped = c.lines.invariant.drops whole before in
+    in_step K.taken K.broken c.args.plan.now watching.length watching.until_settled c.args.out.now c.lines.out text (timed_text coming was) (timed_text coming now) (timed_lines was)
+    (stage_of g.T.WindowTable.window c.lines.watch) (c.lines.invariant.passed whole before) (c.lines.invariant.shown whole before) (c.lines.invariant.way sound way)
+    (drops_timed text (timed_text coming was) (timed_text coming now) _ (timed_lines was) dropped gives)
+
+pub returns-in-Err-take-clause-stops : goal.returns-in-Err-take-clause-stops
+returns-in-Err-take-clause-stops g c = λ sound way not_read whole begins.
+    let S = g.R.Source in
+    let K = g.K.Sink in
+    let coming = rest_of S.given whole in
+    let was = c.lines.reader in
+    let now = c.next.follows.lender-at-none in
+    let watching = c.args.watching.now in
+    let text = timed_text coming c.args.reader.now in
+    let h = rw (c.in-Ok-Some.is, c.in-Ok-Some.field-0-is) at c.next.follows.holds-at-none in
+    let before = begins_back S.given S.coming S.at_end whole (timed_source was) (timed_source now) h.went begins in
+    let gives = h.gives whole begins in
+    let dropped = c.lines.invariant.drops whole before in
+    in_step K.taken K.broken c.args.plan.now watching.length watching.until_settled c.args.out.now c.lines.out text (timed_text coming was) (timed_text coming now) (timed_lines was)
+    (stage_of g.T.WindowTable.window c.lines.watch) (c.lines.invariant.passed whole before) (c.lines.invariant.shown whole before) (c.lines.invariant.way sound way)
+    (drops_timed text (timed_text coming was) (timed_text coming now) _ (timed_lines was) dropped gives)
+
+pub returns-then-has_failed-clause-stops : goal.returns-then-has_failed-clause-stops
+returns-then-has_failed-clause-stops g c = λ sound way not_read whole begins.
+    let S = g.R.Source in
+    let K = g.K.Sink in
+    let coming = rest_of S.given whole in
+    let was = c.lines.reader in
+    let now = c.next.follows.lender-at-none in
+    let watching = c.args.watching.now in
+    let text = timed_text coming c.args.reader.now in
+    let h = rw (c.in-Ok-Some.is, c.in-Ok-Some.field-0-is) at c.next.follows.holds-at-none in
+    let before = begins_back S.given S.coming S.at_end whole (timed_source was) (timed_source now) h.went begins in
+    let gives = h.gives whole begins in
+    let dropped = c.lines.invariant.drops whole before in
+    in_step K.taken K.broken c.args.plan.now watching.length watching.until_settled c.args.out.now c.lines.out text (timed_text coming was) (timed_text coming now) (timed_lines was)
+    (stage_of g.T.WindowTable.window c.lines.watch) (c.lines.invariant.passed whole before) (c.lines.invariant.shown whole before) (c.lines.invariant.way sound way)
+    (drops_timed text (timed_text coming was) (timed_text coming now) _ (timed_lines was) dropped gives)

@@ -5,7 +5,7 @@ use Rattle.rip_log.proofs.WholeLemmas.{went_nowhere, went_on}
 use Rattle.rip_capture.specs.NextCall.{Stands, TakesPacket, frame_of, place_of, position_of, section_by, source_of}
 use Rattle.rip_capture.specs.Pcap.{Frame}
 use Rattle.rip_capture.specs.declared.error.CaptureCode.TheVariants.{Read}
-use Rattle.rip_report.specs.CapturePackets.{EndsSo, Keeps, LogsSo, ended_at}
+use Rattle.rip_report.specs.CapturePackets.{EndsSo, KeepsFirst, LogsSo, ended_at}
 use Rattle.rip_report.specs.LineTimes.{span_of}
 use Rattle.rip_report.specs.declared.captures.ending.Ending.TheVariants.{Refused}
 use Rattle.rip_report.specs.declared.captures.ending.RefusalCode.{RefusalCode}
@@ -18,7 +18,7 @@ use Rattle.rip_capture.specs.Origins.{origin_in}
 use Rattle.rip_report.specs.CaptureText.{counted, line_count, omitted_of, packet_lines}
 use Rattle.rip_report.specs.Selections.{Carrier, IsCarrier, IsLogged, Selection, first_behind, selection_of}
 use Rattle.rip_report.specs.Outs.{Adds, IsOnItsWay, Progress}
-use Rattle.rip_report.proofs.CaptureLemmas.{adds-packet, all-last, carriers-snoc, counts-snoc, first-snoc, keeps-none, ends-at, ends-by, far, stops-far, frames-snoc, has-room, line_count-snoc, never-unread, read-is_unread, unread-is_read}
+use Rattle.rip_report.proofs.CaptureLemmas.{adds-packet, all-last, carriers-snoc, counts-snoc, first-snoc, ends-at, ends-by, far, stops-far, frames-snoc, has-room, line_count-snoc, never-unread, read-is_unread, unread-is_read}
 use Rattle.rip_report.proofs.OutLemmas.{adds_none, adds_same, adds_then, way_after}
 use Rattle.rip_report.proofs.captures.packets.log_packets.Goals as goal
 
@@ -42,7 +42,7 @@ packets-init g c =
       carriers = [];
       are = record { carry = tt; logged = tt; timed = tt };
       span = refl;
-      keeps = keeps-none (selection_of c.args.part.now.selection) c.args.first.now c.requires.first;
+      keeps = c.requires.first;
       taken = [];
       stands = c.requires.front;
       counts = c.new.ensures c.args.manner;
@@ -92,7 +92,7 @@ packets-preserved g c =
       carriers = cs ++ p ∷ [];
       are = are;
       span = rw (logs.span, span-snoc None cs p) (shown-with c.packets.tally.span (span_of cs) logs.micros p.time inv.span logs.shown);
-      keeps = subst (λ (o : Option Frame). Keeps (selection_of c.args.part.now.selection) o (origin_in c.log_packet.new.first)) (sym (first-snoc None cs p)) did.keeps;
+      keeps = subst (λ (o : Option Frame). KeepsFirst o (origin_in c.log_packet.new.first)) (sym (first-snoc None cs p)) did.keeps;
       taken = goes.front ++ goes.bytes;
       stands = subst (λ (fs : List Frame). Stands S.given before now (goes.front ++ goes.bytes) fs) (sym (frames-snoc cs p)) goes.stands;
       counts = logs.counts ∙ ap (λ n. counted n p.logged (omitted_of c.args.manner.authentication p.frame.bytes p.logged)) inv.counts ∙ sym (counts-snoc c.args.manner cs p);

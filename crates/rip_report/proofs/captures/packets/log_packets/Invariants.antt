@@ -3,7 +3,7 @@ use Rattle.rip_log.specs.Wholes.{Went}
 use Rattle.rip_log.specs.declared.limits.TheConstants.{MOST_LINES}
 use Rattle.rip_capture.specs.NextCall.{Stands, refusal_of, source_of}
 use Rattle.rip_capture.specs.Origins.{origin_in}
-use Rattle.rip_report.specs.CapturePackets.{Keeps}
+use Rattle.rip_report.specs.CapturePackets.{KeepsFirst}
 use Rattle.rip_report.specs.LineTimes.{AreShown, span_of}
 use Rattle.rip_report.specs.CaptureText.{AreCarriers, counts_of, line_count, packet_lines}
 use Rattle.rip_report.specs.Selections.{Carrier, first_behind, selection_of}
@@ -17,7 +17,7 @@ invariant-packets g l =
       carriers : List Carrier;
       are : AreCarriers l.manner (selection_of l.part.selection) carriers;
       span : AreShown l.tally.span (span_of carriers);
-      keeps : Keeps (selection_of l.part.selection) (first_behind None carriers) (origin_in l.first);
+      keeps : KeepsFirst (first_behind None carriers) (origin_in l.first);
       taken : List ℕ;
       stands : Stands S.given (S.given (source_of l.fn.reader)) l.reader taken (map (λ c. c.frame) carriers);
       counts : l.tally.counts ≡ counts_of l.manner carriers;
