@@ -1,5 +1,5 @@
 -- Tests of tables that are written out, and what they tell: that they are shown, and which places hold.
-use Rattle.std.proofs.Common.{◌≡◌, ℕ, ◌+◌, ◌<◌, ◌≤◌, ◌⊎◌, inl, inr, min, unwrap_or, Bool, true, false, not, ◌&&◌, ◌||◌, ◌==◌, nat_le, nat_lt, length, Option, None, Some, slice_get, refl, sym, ◌∙◌, ap, subst, arith}
+use Rattle.std.proofs.Common.{◌≡◌, ℕ, ◌+◌, ◌<◌, ◌≤◌, ◌⊎◌, inl, inr, min, unwrap_or, Bool, true, false, not, ◌&&◌, ◌||◌, ◌==◌, nat_le, nat_lt, length, Option, None, Some, slice_get, refl, sym, ◌∙◌, ap, arith}
 use Rattle.std.proofs.lemmas.Bool.{and_parts, and_from, or_cases, or_left, or_right, not-true, not_from_false, both_ways, eqb-true, eqb-false, false_from_ne_true, leb-true, ltb-true, eq-eqb, ne_eqb}
 use Rattle.rip_plan.specs.declared.parts.Seat.{Seat}
 use Rattle.rip_plan.specs.declared.parts.Seat.TheVariants.{Link, Own}

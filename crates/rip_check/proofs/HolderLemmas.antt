@@ -1,16 +1,14 @@
 -- Neighbours whose own address a next hop is, and what they offer.
-use Rattle.std.proofs.Common.{◌≡◌, ◌≢◌, ℕ, ◌+◌, ◌<◌, ◌≤◌, ◌⊎◌, ◌↔◌, inl, inr, Bool, true, false, Decides, List, Contains, Option, Some, get_or, length, replicate, refl, sym, ◌∙◌, ap, arith}
+use Rattle.std.proofs.Common.{◌≡◌, ℕ, ◌+◌, ◌<◌, ◌≤◌, ◌⊎◌, ◌↔◌, inl, inr, true, false, List, Contains, get_or, length, replicate, refl, sym, ◌∙◌, arith}
 use Rattle.std.proofs.lemmas.Bool.{cases_lt}
-use Rattle.std.proofs.lemmas.Option.{same_Some}
 use Rattle.rip_wire.specs.Prefix.{Block}
 use Rattle.rip_plan.specs.Network.{Network}
 use Rattle.rip_plan.specs.PrefixNetworks.{IsNetwork, network_for}
 use Rattle.rip_plan.specs.Relations.{Exchanges, HasCost, IsInterface, IsLawful, IsNeighbour}
 use Rattle.rip_plan.specs.declared.parts.Interface.{Interface}
 use Rattle.rip_table.specs.State.{State}
-use Rattle.rip_check.specs.OwnSettled.{DoHoldersOffer, OffersAsHolder}
+use Rattle.rip_check.specs.OwnSettled.{OffersAsHolder}
 use Rattle.rip_check.specs.OwnTells.{IsHolder}
-use Rattle.rip_check.specs.OwnVerdicts.{IsFirstLacking, IsLackingAt}
 use Rattle.rip_check.specs.Tables.{Offers}
 use Rattle.rip_check.specs.ToldCells.{AreMarks, HasAddressAcross, IsOneHolder}
 use Rattle.rip_check.proofs.AcrossLemmas.{heard_from}

@@ -1,15 +1,13 @@
 -- A run of `watch` reads in step with what it prints.
-use Rattle.std.proofs.Common.{◌≡◌, ◌⊎◌, ◌+◌, ◌++◌, ◌≤◌, ◌∙◌, ℕ, Bool, true, false, List, [], length, Option, None, Some, Result, Ok, Err, inl, inr, refl, sym, ap, subst, arith, append-nil}
+use Rattle.std.proofs.Common.{◌≡◌, ◌⊎◌, ◌+◌, ◌++◌, ◌≤◌, ◌∙◌, ℕ, Bool, false, List, [], length, Option, None, Some, inl, inr, refl, sym, ap, subst, arith, append-nil}
 use Rattle.std.proofs.lemmas.List.{append_cancel_left}
 use Rattle.std.specs.Io.KnownBytes.{prepend_known}
-use Rattle.rip_log.specs.declared.feed.Feed.{Feed}
 use Rattle.rip_log.specs.declared.sink.Sink.{Ghosts as SinkOf}
 use Rattle.rip_log.specs.declared.source.Source.{Ghosts as SourceOf}
 use Rattle.rip_log.specs.Cuts.{DropsLines, PassesLines}
-use Rattle.rip_log.specs.Feeds.{held, text as text_of}
 use Rattle.rip_log.specs.Taken.{Taken}
 use Rattle.rip_log.specs.TimedCall.{TakesTimed, timed_held, timed_source, timed_text}
-use Rattle.rip_log.specs.TimedText.{LineSaid, TimedSaid}
+use Rattle.rip_log.specs.TimedText.{TimedSaid}
 use Rattle.rip_log.specs.Wholes.{Begins, OfWhole, rest_of}
 use Rattle.rip_log.specs.declared.limits.TheConstants.{MOST_HELD_BYTES}
 use Rattle.rip_log.specs.declared.timed.reader.TimedReader.{TimedReader}
@@ -17,12 +15,11 @@ use Rattle.rip_log.proofs.PassLemmas.{drops_line, drops_trans}
 use Rattle.rip_log.proofs.TakenLemmas.{Took-none}
 use Rattle.rip_plan.specs.Network.{Network}
 use Rattle.rip_table.specs.Scenes.{new_view}
-use Rattle.rip_report.specs.Films.{HasShownOf, IsInStep, IsUnreadTo, SaysBehind, Stage}
+use Rattle.rip_report.specs.Films.{HasShownOf, IsInStep, IsUnreadTo, Stage}
 use Rattle.rip_report.specs.Films.HasShown.{nothing}
 use Rattle.rip_report.specs.Outs.{AddsOne, IsOnItsWay, Progress}
-use Rattle.rip_report.specs.Runs.{ReadsInStep, StaysInStep, StopsBehind}
+use Rattle.rip_report.specs.Runs.{ReadsInStep, StaysInStep}
 use Rattle.rip_report.specs.Sent.{sink_state}
-use Rattle.rip_report.specs.declared.page.TheConstants.{PAGE_BYTES}
 use Rattle.rip_report.proofs.GivenLemmas.{rest_given}
 use Rattle.rip_report.proofs.StopLemmas.{nothing_left, of_lines}
 

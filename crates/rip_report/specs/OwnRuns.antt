@@ -1,5 +1,5 @@
 -- What runs on the routers' own tables print and leave.
-use Rattle.std.specs.Prelude.{◌≡◌, ℕ, Bool, if◌then◌else◌, List, Result, Ok, Err, IfOk}
+use Rattle.std.specs.Prelude.{ℕ, Bool, if◌then◌else◌, List, Result, Ok, Err, IfOk}
 use Rattle.rip_log.specs.declared.sink.Sink.{Ghosts as SinkOf}
 use Rattle.rip_log.specs.declared.source.Source.{Ghosts as SourceOf}
 use Rattle.rip_plan.specs.Network.{Network}

@@ -1,5 +1,5 @@
 -- What `audit --routes` and `explain --routes` print.
-use Rattle.std.specs.Prelude.{◌≡◌, ◌≢◌, ◌↔◌, ℕ, ◌==◌, ◌<◌, Bool, true, false, if◌then◌else◌, List, [], ◌++◌, length, codes, decimal, None, Ok, Err}
+use Rattle.std.specs.Prelude.{◌≡◌, ◌≢◌, ◌↔◌, ℕ, ◌==◌, ◌<◌, Bool, true, false, if◌then◌else◌, List, [], ◌++◌, length, codes, decimal, None}
 use Rattle.std.specs.List.{flat_map}
 use Rattle.rip_wire.specs.Address.{address_text}
 use Rattle.rip_plan.specs.Network.{Network}

@@ -1,4 +1,3 @@
-use Rattle.std.proofs.Common.{◌≡◌, ℕ, false}
 use Rattle.rip_check.proofs.HolderLemmas.{no_marks}
 use Rattle.rip_check.proofs.own_audit.first_lacking.Goals as goal
 

@@ -1,12 +1,9 @@
-use Rattle.std.proofs.Common.{◌≡◌, ℕ, ◌+◌, ◌<◌, ◌≤◌, Decides, inl, inr, false, true, get_or, length, refl, subst, sym, ◌∙◌, arith}
+use Rattle.std.proofs.Common.{◌≡◌, ℕ, get_or, arith}
 use Rattle.std.proofs.lemmas.Bool.Decides.{not_from_Decides}
-use Rattle.rip_plan.specs.Relations.{IsInterface}
 use Rattle.rip_check.specs.Cases.{block_of, network_of, told_in}
 use Rattle.rip_check.specs.OwnSettled.{OffersAsHolder}
 use Rattle.rip_check.specs.OwnTells.{IsHolder}
-use Rattle.rip_check.specs.Tables.{Offers}
 use Rattle.rip_check.specs.ToldCells.{IsOneHolder}
-use Rattle.rip_check.specs.OwnVerdicts.{IsLackingAt}
 use Rattle.rip_check.proofs.HolderLemmas.{holder_known, holder_on, holder_was}
 use Rattle.rip_check.proofs.NetLemmas.{here, its}
 use Rattle.rip_check.proofs.OwnedLemmas.{all_before, each_more, every, its_number, its_own, its_router}

@@ -1,7 +1,6 @@
-use Rattle.std.proofs.Common.{◌≡◌, ℕ, Decides, Some, min, unwrap_or, refl, sym, ap}
+use Rattle.std.proofs.Common.{◌≡◌, Decides, refl, sym}
 use Rattle.std.proofs.lemmas.Bool.Decides.{not_from_Decides}
 use Rattle.std.proofs.lemmas.Option.{none-some, same_Some}
-use Rattle.rip_plan.specs.Relations.{IsInterface}
 use Rattle.rip_check.specs.Cases.{block_of, network_of, told_in}
 use Rattle.rip_check.specs.ToldCells.{IsOneHolder}
 use Rattle.rip_check.specs.Tables.{Offers}

@@ -1,4 +1,3 @@
-use Rattle.std.proofs.Common.{refl}
 use Rattle.rip_check.proofs.own_audit.is_address_given.Goals as goal
 
 pub returns-in-Some : goal.returns-in-Some

@@ -1,6 +1,5 @@
-use Rattle.std.proofs.Common.{◌≡◌, ℕ, ◌+◌, ◌<◌, ◌≤◌, Decides, inl, inr, false, true, get_or, length, refl, subst, sym, ◌∙◌, arith}
+use Rattle.std.proofs.Common.{◌≡◌, ℕ, ◌+◌, ◌<◌, Decides, inl, inr, false, true, length, sym, ◌∙◌, arith}
 use Rattle.std.proofs.lemmas.Bool.Decides.{not_from_Decides}
-use Rattle.rip_plan.specs.Relations.{IsInterface}
 use Rattle.rip_check.specs.Cases.{block_of, network_of, told_in}
 use Rattle.rip_check.specs.OwnSettled.{OffersAsHolder}
 use Rattle.rip_check.specs.OwnTells.{IsHolder}

@@ -1,4 +1,4 @@
-use Rattle.std.proofs.Common.{◌≡◌, Ok, rules, subst, sym}
+use Rattle.std.proofs.Common.{rules, subst, sym}
 use Rattle.std.specs.Prelude.{IfOk}
 use Rattle.rip_routes.specs.RouteText.{RefusesText, TellTables}
 use Rattle.rip_report.specs.OwnText.{JudgesRightly, RoutesReport, RoutesText}

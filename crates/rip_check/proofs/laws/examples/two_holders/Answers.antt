@@ -1,10 +1,9 @@
-use Rattle.std.proofs.Common.{◌≡◌, ℕ, zero, suc, ◌+◌, ◌∙◌, List, [], ◌∷◌, Option, None, Some, min, slice_get, unwrap_or, refl, ap, arith}
+use Rattle.std.proofs.Common.{◌≡◌, ℕ, zero, suc, ◌+◌, ◌∙◌, [], ◌∷◌, Some, min, slice_get, unwrap_or, refl, ap, arith}
 use Rattle.std.proofs.lemmas.Option.{none-some, same_Some}
 use Rattle.rip_plan.specs.declared.parts.Interface.{Interface}
-use Rattle.rip_plan.specs.Relations.{IsInterface, IsNeighbour}
+use Rattle.rip_plan.specs.Relations.{IsInterface}
 use Rattle.rip_check.specs.Examples.{interface, octets, two_holders, two_holders_told}
 use Rattle.rip_check.specs.Metrics.{metric_at}
-use Rattle.rip_check.specs.OwnSettled.{OffersAsHolder}
 use Rattle.rip_check.specs.OwnVerdicts.{IsLackingAt}
 use Rattle.rip_check.proofs.laws.examples.two_holders.Goals as goal
 

@@ -1,4 +1,4 @@
-use Rattle.std.proofs.Common.{◌≡◌, ℕ, zero, suc, ◌+◌, List, [], ◌∷◌, Some, slice_get, refl}
+use Rattle.std.proofs.Common.{zero, suc, [], refl}
 use Rattle.std.proofs.lemmas.Option.{none-some}
 use Rattle.rip_wire.specs.Fields.{number_at}
 use Rattle.rip_wire.specs.Message.{message_in, kind_in, entries_at, entry_at, bits_of_mask, prefix_lens}
